@@ -1,0 +1,5 @@
+mod ListLaws
+pub mod NetLaws
+mod ReachLaws
+mod Rows
+pub mod WalkLaws

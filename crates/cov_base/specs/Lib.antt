@@ -1,0 +1,4 @@
+pub mod Falls
+pub mod Net
+pub mod Reach
+pub mod Walks

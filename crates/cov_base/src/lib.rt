@@ -1,0 +1,14 @@
+//! Flow nets of C functions, and the words for the walks through them.
+
+#![tactic(auto)]
+
+mod faults;
+pub mod net;
+mod reach;
+pub mod refusal;
+
+pub use net::{ArcKind, FlowArc, Net, NetFault, falls};
+pub use refusal::Refusal;
+
+#[cfg(test)]
+mod tests;
