@@ -1,0 +1,3 @@
+pub mod Causes
+mod Files
+mod Whole

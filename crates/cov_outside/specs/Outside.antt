@@ -1,0 +1,65 @@
+-- What an answer of the outside says: the bytes and files where they are told, and the count of faults.
+use Rattle.std.specs.Prelude.{◌≡◌, ◌⊎◌, ◌↔◌, ◌<◌, ◌≤◌, ◌-◌, ◌^◌, ℕ, List, [], ◌++◌, length, take, drop, Option, Some, None, Result, Ok, Err, Vec, bytes_eq, if◌then◌else◌}
+use Rattle.std.specs.Global.{Global}
+use Rattle.cov_outside.specs.declared.faults.Failed.{Failed}
+use Rattle.cov_outside.specs.declared.faults.SinkFault.{SinkFault}
+use Rattle.cov_outside.specs.declared.faults.LoadFault.{LoadFault}
+use Rattle.cov_outside.specs.declared.faults.LoadFault.TheVariants as load_fault
+
+-- the count of faults rose, or stands at the greatest number that it can hold
+abbrev pub Rose : ℕ → ℕ → Type 0
+Rose before now = (before < now) ⊎ (now ≡ 2 ^ 64 - 1)
+
+-- the count never fell, stayed at the greatest number if it was there, and rose where this fault is the answer
+pub record HasCause (before now : ℕ) (fault : Type 0) : Type 0 where
+  pub later : before ≤ now
+  pub stays : before ≡ 2 ^ 64 - 1 → now ≡ 2 ^ 64 - 1
+  pub risen : fault → Rose before now
+
+-- the first n bytes left were taken, and stand at the front of the piece; none at the end alone
+pub record TakesFront (before : List ℕ) (after : Option (List ℕ)) (n : ℕ) (piece : List ℕ) : Type 0 where
+  pub front : take n piece ≡ take n before
+  pub rest : after ≡ Some (drop n before)
+  pub enough : n ≤ length before
+  pub ends : 0 < length piece → (n ≡ 0) ↔ (before ≡ [])
+
+-- what a read does to the bytes left
+abbrev pub Reads : Option (List ℕ) → Option (List ℕ) → Result ℕ Failed → List ℕ → Type 0
+Reads (Some before) after (Ok n) piece = TakesFront before after n piece
+Reads (Some before) after (Err fault) piece = after ≡ Some before
+Reads None after result piece = after ≡ None
+
+-- what a write does to the bytes written
+abbrev pub Writes : Option (List ℕ) → Option (List ℕ) → Result ℕ SinkFault → List ℕ → Type 0
+Writes (Some before) after (Ok n) piece = after ≡ Some (before ++ take n piece)
+Writes (Some before) after (Err fault) piece = after ≡ Some before
+Writes None after result piece = after ≡ None
+
+-- what writing a whole text does: all of it, or after a fault its first bytes
+abbrev pub WritesAll : Option (List ℕ) → Option (List ℕ) → Result (Unit {0}) SinkFault → List ℕ → Type 0
+WritesAll (Some before) after (Ok done) bytes = after ≡ Some (before ++ bytes)
+WritesAll (Some before) after (Err fault) bytes = (n : ℕ) × (n ≤ length bytes) × (after ≡ Some (before ++ take n bytes))
+WritesAll None after result bytes = after ≡ None
+
+-- a file longer than the limit
+abbrev pub IsLonger : ℕ → Option (List ℕ) → Type 0
+IsLonger limit None = ⊥
+IsLonger limit (Some bytes) = limit < length bytes
+
+-- what a load says of the files
+abbrev pub Loads : Option (List ℕ → Option (List ℕ)) → List ℕ → ℕ → Result (Option (Vec ℕ Global)) LoadFault → Type 0
+Loads (Some files) name limit (Ok None) = files name ≡ None
+Loads (Some files) name limit (Ok (Some bytes)) = files name ≡ Some bytes.items
+Loads (Some files) name limit (Err load_fault.TooLong) = IsLonger limit (files name)
+Loads (Some files) name limit (Err fault) = Unit {0}
+Loads None name limit result = Unit {0}
+
+-- the files once these bytes stand under the name
+abbrev pub put_file : List ℕ → List ℕ → (List ℕ → Option (List ℕ)) → List ℕ → Option (List ℕ)
+put_file name bytes before other = if bytes_eq name other then Some bytes else before other
+
+-- what a replace does to the files
+abbrev pub Replaces : Option (List ℕ → Option (List ℕ)) → Option (List ℕ → Option (List ℕ)) → List ℕ → List ℕ → Result (Unit {0}) SinkFault → Type 0
+Replaces (Some before) after name bytes (Ok done) = after ≡ Some (put_file name bytes before)
+Replaces (Some before) after name bytes (Err fault) = after ≡ Some before
+Replaces None after name bytes result = after ≡ None

@@ -1,0 +1,26 @@
+//! The edge to the outside: sources, sinks and folders by contract, in memory for tests, and over the real ones.
+#![tactic(auto)]
+
+mod calls;
+mod directory;
+mod faults;
+mod folder;
+mod kept;
+mod left;
+mod memory;
+mod named;
+mod sink;
+mod source;
+mod streams;
+mod sure;
+#[cfg(test)]
+mod tests;
+
+pub use directory::DirFolder;
+pub use faults::{Failed, LoadFault, SinkFault};
+pub use folder::Folder;
+pub use memory::{MemFolder, MemSink, MemSource};
+pub use sink::{Sink, write_all};
+pub use source::Source;
+pub use streams::{StdErr, StdSink, StdSource};
+pub use sure::{SureFolder, SureSink, SureSource};

@@ -1,0 +1,118 @@
+// The outside in memory, without faults.
+ghost use Rattle.std.specs.Prelude.{◌≡◌, [], option_copied, Some};
+
+use crate::faults::{Failed, LoadFault, SinkFault};
+use crate::folder::Folder;
+use crate::kept::Kept;
+use crate::left::Left;
+use crate::named::Named;
+use crate::sink::Sink;
+use crate::source::Source;
+use std::alloc::Global;
+
+/// Bytes in memory. No read fails.
+#[derive(Drop)]
+pub struct SureSource {
+    left: Left,
+}
+
+impl SureSource {
+    ghost use Rattle.cov_outside.specs.Memory.{sure_left};
+
+    pub fn new(bytes: Vec<u8>) -> SureSource
+        ensures { sure_left result ≡ bytes.items }
+    {
+        SureSource {
+            left: Left::new(bytes),
+        }
+    }
+}
+
+impl Source for SureSource {
+    ghost use Rattle.cov_outside.specs.Memory.{sure_left};
+
+    ghost left = { λ s. Some (sure_left s) };
+
+    ghost faults = { λ s. 0 };
+
+    fn read(&mut self, into: &mut [u8]) -> Result<usize, Failed> {
+        Ok(self.left.take(into))
+    }
+}
+
+/// Keeps the bytes that are written. A write fails for want of memory alone.
+#[derive(Drop)]
+pub struct SureSink {
+    kept: Kept,
+}
+
+impl SureSink {
+    ghost use Rattle.cov_outside.specs.Memory.{sure_written};
+
+    pub fn new(alloc: Global) -> SureSink
+        ensures { sure_written result ≡ [] }
+    {
+        SureSink {
+            kept: Kept::new(alloc),
+        }
+    }
+
+    pub fn bytes(&self) -> &[u8]
+        ensures { result.now ≡ sure_written self.now }
+    {
+        self.kept.bytes()
+    }
+}
+
+impl Sink for SureSink {
+    ghost use Rattle.cov_outside.specs.Memory.{sure_written};
+
+    ghost written = { λ s. Some (sure_written s) };
+
+    ghost faults = { λ s. 0 };
+
+    fn write(&mut self, piece: &[u8]) -> Result<usize, SinkFault> {
+        self.kept.append(piece)
+    }
+}
+
+/// Files in memory. Of two of one name the last counts. No call fails but for want of memory.
+#[derive(Drop)]
+pub struct SureFolder {
+    named: Named,
+}
+
+impl SureFolder {
+    ghost use Rattle.cov_outside.specs.Memory.{sure_files};
+    ghost use Rattle.cov_outside.specs.Stores.{last_file, plain_files};
+
+    pub fn new(alloc: Global, files: Vec<(String, Vec<u8>)>) -> SureFolder
+        ensures { sure_files result ≡ last_file (plain_files files.items) }
+    {
+        SureFolder {
+            named: Named::new(alloc, files),
+        }
+    }
+
+    pub fn get(&self, name: &str) -> Option<&[u8]>
+        ensures { option_copied result ≡ sure_files self.now name.now }
+    {
+        self.named.get(name)
+    }
+}
+
+impl Folder for SureFolder {
+    ghost use Rattle.cov_outside.specs.Memory.{sure_files};
+
+    ghost files = { λ s. Some (sure_files s) };
+
+    ghost faults = { λ s. 0 };
+
+    fn load(&mut self, name: &str, limit: usize) -> Result<Option<Vec<u8>>, LoadFault> {
+        self.named.load(name, limit)
+    }
+
+    fn replace(&mut self, name: &str, bytes: &[u8]) -> Result<(), SinkFault> {
+        self.named.replace(name, bytes)
+    }
+}
