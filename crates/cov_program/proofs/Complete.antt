@@ -1,0 +1,57 @@
+-- With both files in order and no fault, `cover` is done or out of memory.
+use Rattle.std.proofs.Common.{◌≡◌, inl, inr, ℕ, List, length, string_bytes, refl, sym, ap, ◌∙◌, subst, arith}
+use Rattle.std.specs.Prelude.{Option, Some, None, IfSome}
+use Rattle.cov_program.specs.declared.answers.End.{End}
+use Rattle.cov_program.specs.declared.answers.End.TheVariants as answer
+use Rattle.cov_program.specs.FirstForm.{IsFirstForm}
+use Rattle.cov_program.specs.Answers.{Files, HasSource, IsLoaded, IsOver, IsRefused, IsMissing, IsTooLong, Covers, IsReady, IsDone}
+
+-- a file that is there isn't missing
+there : (files : Files) (name bytes : List ℕ) → files name ≡ Some bytes → files name ≡ None → ⊥
+there files name bytes e f = absurd (cc)
+
+-- a file within its limit isn't longer than that
+within : (files : Files) (name bytes : List ℕ) (limit : ℕ) → IsLoaded files name limit bytes → IsOver files name limit → ⊥
+within files name bytes limit loaded over =
+    let e : Some bytes ≡ Some over.bytes = sym loaded.there ∙ over.there in
+    let f : bytes ≡ over.bytes = cc in
+    absurd (omega (arith, ap length f, loaded.fits, over.long))
+
+-- a source of the first form isn't refused
+formed : (files : Files) (source : List ℕ) → HasSource files source → IsRefused files source → ⊥
+formed files source has refused =
+    let e : Some has.0 ≡ Some refused.bytes = sym has.2.loaded.there ∙ refused.loaded.there in
+    let f : has.0 ≡ refused.bytes = cc in
+    refused.formless has.1 (subst (λ bytes. IsFirstForm bytes has.1) f has.2.formed)
+
+-- files that are in order aren't missing
+not_missing : (files : Files) (source input name : List ℕ) → IsReady files source input → IsMissing files source input name → ⊥
+not_missing files source input name ready (inl m) = there files source ready.compiled.0 ready.compiled.2.loaded.there m.1
+not_missing files source input name ready (inr m) = there files input ready.bytes ready.loaded.there m.2
+
+-- files that are in order aren't too long
+not_too_long : (files : Files) (source input name : List ℕ) → IsReady files source input → IsTooLong files source input name → ⊥
+not_too_long files source input name ready (inl m) = within files source ready.compiled.0 _ ready.compiled.2.loaded m.1
+not_too_long files source input name ready (inr m) = within files input ready.bytes _ ready.loaded m.2
+
+-- where nothing else may be answered, the answer is Done or NoMemory
+pub done : (files : Files) (source input before : List ℕ) (after : Option (List ℕ)) (end : End) → Covers files source input before after end → IsReady files source input
+    → (end ≡ answer.WriteFault → ⊥) → (end ≡ answer.FolderFault → ⊥) → IsDone end
+done files source input before after answer.Done h ready w f = tt
+done files source input before after (answer.Usage fault) h ready w f = absurd h
+done files source input before after (answer.SourceRefused fault) h ready w f = absurd (formed files source ready.compiled h.0)
+done files source input before after (answer.Missing name) h ready w f = absurd (not_missing files source input (string_bytes name) ready h.0)
+done files source input before after (answer.TooLong name) h ready w f = absurd (not_too_long files source input (string_bytes name) ready h.0)
+done files source input before after answer.WriteFault h ready w f = absurd (w refl)
+done files source input before after answer.FolderFault h ready w f = absurd (f refl)
+done files source input before after answer.NoMemory h ready w f = tt
+
+-- so where the files and the output are told
+pub complete : (files : Option Files) (before : Option (List ℕ)) (source input : List ℕ) (after : Option (List ℕ)) (end : End) (W F : Type 0)
+    → (end ≡ answer.WriteFault → W) → (end ≡ answer.FolderFault → F)
+    → IfSome files (λ files. IfSome before (λ before. Covers files source input before after end))
+    → IfSome files (λ files. IfSome before (λ before. IsReady files source input → (W → ⊥) → (F → ⊥) → IsDone end))
+complete None before source input after end W F w f h = tt
+complete (Some files) None source input after end W F w f h = tt
+complete (Some files) (Some before) source input after end W F w f h =
+    λ ready no_write no_folder. done files source input before after end h ready (λ e. no_write (w e)) (λ e. no_folder (f e))

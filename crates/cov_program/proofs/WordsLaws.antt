@@ -1,0 +1,28 @@
+-- Three words.
+use Rattle.std.proofs.Common.{◌≡◌, ℕ, ◌≤◌, ◌<◌, List, [], ◌∷◌, length, get_or, sym, ap, ap₂, subst, ◌∙◌, codes, arith}
+use Rattle.std.specs.Prelude.{Option, Some, None, MatchOption}
+use Rattle.cov_program.specs.declared.words.CoverWords.{CoverWords}
+use Rattle.cov_program.specs.CoverText.{stem}
+use Rattle.cov_program.specs.Words.{IsCover, IsSourceName}
+
+-- a list of three members is these three
+pub three : {A : Type 0} → (xs : List A) (a b c : A) → 3 ≤ length xs → length xs < 4 → a ≡ get_or xs 0 a → b ≡ get_or xs 1 b → c ≡ get_or xs 2 c
+    → xs ≡ a ∷ b ∷ c ∷ []
+three [] a b c lo hi p q r = absurd (omega arith)
+three (x ∷ []) a b c lo hi p q r = absurd (omega arith)
+three (x ∷ y ∷ []) a b c lo hi p q r = absurd (omega arith)
+three (x ∷ y ∷ z ∷ []) a b c lo hi p q r = cc
+three (x ∷ y ∷ z ∷ w ∷ xs) a b c lo hi p q r = absurd (omega arith)
+
+-- the names that were read of three words are those of a `cover`
+pub cover_names : (words : List (List ℕ)) (source input : List ℕ) (found : Option CoverWords) → words ≡ codes "cover" ∷ source ∷ input ∷ []
+    → MatchOption found (IsSourceName source → ⊥) (λ names. IsSourceName source × (names.source.now ≡ source) × (names.input.now ≡ input) × (names.stem.now ≡ stem source))
+    → MatchOption found ((s i : List ℕ) → IsCover words s i → ⊥) (λ names. IsCover words names.source.now names.input.now × (names.stem.now ≡ stem names.source.now))
+cover_names words source input None e h = λ s i is. h (subst IsSourceName (second s i is.three) is.name)
+  where
+    second : (s i : List ℕ) → words ≡ codes "cover" ∷ s ∷ i ∷ [] → s ≡ source
+    second s i f = let g : codes "cover" ∷ s ∷ i ∷ [] ≡ codes "cover" ∷ source ∷ input ∷ [] = sym f ∙ e in ap (λ xs. get_or xs 1 []) g
+cover_names words source input (Some names) e h = (
+  record { three = e ∙ ap₂ (λ s i. codes "cover" ∷ s ∷ i ∷ []) (sym h.1) (sym h.2); name = subst IsSourceName (sym h.1) h.0 },
+  h.3 ∙ ap stem (sym h.1),
+)

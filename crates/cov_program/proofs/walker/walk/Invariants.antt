@@ -1,0 +1,10 @@
+use Rattle.std.proofs.Common.{◌+◌, ◌-◌, ◌*◌, length}
+use Rattle.cov_program.specs.GraphView.{graph_seen}
+use Rattle.cov_program.proofs.Walking.{IsWalking}
+use Rattle.cov_program.proofs.walker.walk.Given as goal
+
+abbrev pub invariant-loop-ending : goal.invariant-loop-ending
+invariant-loop-ending l = IsWalking (graph_seen l.blocks) l.input l.turns l.moment
+
+abbrev pub decreases-loop-ending : goal.decreases-loop-ending
+decreases-loop-ending l = l.moment.turns * length l.blocks + (2 + length l.blocks - l.moment.block)

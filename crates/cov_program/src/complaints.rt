@@ -1,0 +1,57 @@
+//! What an answer says on the error output.
+
+ghost use Rattle.std.specs.Prelude.{◌≡◌, ◌∷◌, [], ◌++◌, IfSome};
+ghost use Rattle.cov_outside.specs.Outside.{WritesAll};
+ghost use Rattle.cov_program.specs.Answers.{IsFront, line_of, words_in, name_in};
+
+use crate::answers::End;
+use cov_outside::{Sink, SinkFault, write_all};
+
+/// Writes the line of the answer, if it has one. A fault of the output changes nothing but that the line may be cut.
+pub fn tell<E: Sink>(end: &End, err: &mut E)
+    ensures { IfSome (E.written err.old) (λ before. IsFront (line_of end.now) before (E.written err.new)) }
+{
+    match end {
+        End::Done => {}
+        _ => {
+            let _ = write_line(err, words_of(end), name_of(end));
+        }
+    }
+}
+
+/// Writes the words, the name and a newline.
+fn write_line<E: Sink>(err: &mut E, words: &[u8], name: &[u8]) -> Result<(), SinkFault>
+    ensures { WritesAll (E.written err.old) (E.written err.new) result (words.now ++ (name.now ++ 10 ∷ [])) }
+{
+    write_all(err, words)?;
+    write_all(err, name)?;
+    write_all(err, b"\n")
+}
+
+/// The first words of the line of an answer.
+fn words_of(end: &End) -> &'static [u8]
+    ensures { result.now ≡ words_in end.now }
+{
+    match end {
+        End::Done => b"",
+        End::Usage(_) => {
+            b"cov: usage: cover SRC IN.. | build SRC | run NAME | report NAME | merge A B OUT | make N"
+        }
+        End::SourceRefused(_) => b"cov: source: not first form",
+        End::Missing(_) => b"cov: missing ",
+        End::TooLong(_) => b"cov: too long ",
+        End::WriteFault => b"cov: write fault",
+        End::FolderFault => b"cov: folder fault",
+        End::NoMemory => b"cov: no memory",
+    }
+}
+
+/// The name of the file that an answer speaks of, or nothing.
+fn name_of(end: &End) -> &[u8]
+    ensures { result.now ≡ name_in end.now }
+{
+    match end {
+        End::Missing(name) | End::TooLong(name) => name.as_bytes(),
+        _ => b"",
+    }
+}
