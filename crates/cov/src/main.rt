@@ -24,7 +24,7 @@ fn main(rt: HostRuntime) -> ExitCode {
             )
         }
         Err(end) => {
-            tell(&end, &mut err);
+            let _ = tell(&end, &mut err);
             end
         }
     };

@@ -1,10 +1,10 @@
--- Which arcs control falls through along.
+-- The arcs along which control falls through.
 use Rattle.std.specs.Prelude.{Bool, true, false, ◌+◌, ◌==◌, ◌||◌, ◌&&◌}
 use Rattle.cov_base.specs.declared.net.ArcKind.{ArcKind}
 use Rattle.cov_base.specs.declared.net.ArcKind.TheVariants.{Real, CallExit}
 use Rattle.cov_base.specs.declared.net.FlowArc.{FlowArc}
 
--- along a real arc control passes from one block to the next
+-- the arc's kind is Real, not CallExit
 abbrev pub is_real : ArcKind → Bool
 is_real Real = true
 is_real CallExit = false

@@ -24,7 +24,7 @@ is_outside blocks arc = nat_le blocks arc.from || nat_le blocks arc.to || (arc.t
 abbrev pub is_above : FlowArc → FlowArc → Bool
 is_above arc before = nat_lt before.from arc.from || ((before.from == arc.from) && nat_lt before.to arc.to)
 
--- the arcs from index i on are met after another arc: the index of the first that is not above the one before it
+-- of these arcs, the first of which has index i and stands behind another: the index of the first that is not above the one before it
 abbrev pub unordered_after : FlowArc → ℕ → List FlowArc → Option ℕ
 unordered_after before i [] = None
 unordered_after before i (arc ∷ arcs) = if is_above arc before then unordered_after arc (i + 1) arcs else Some i
@@ -54,7 +54,7 @@ first_wrong_entry arcs = if has_arc arcs 0 2 then position is_wrong_entry arcs e
 abbrev pub is_misplaced : FlowArc → Bool
 is_misplaced arc = not (is_real arc.kind) && not (arc.to == 1)
 
--- numbers ascend strictly from above a first one
+-- the first number is above `low`, and each further one is above the one before it
 abbrev pub ascends : ℕ → List ℕ → Bool
 ascends low [] = true
 ascends low (line ∷ lines) = nat_lt low line && ascends line lines
@@ -67,7 +67,7 @@ is_bare lines = length lines == 0
 abbrev pub suits : ℕ → List ℕ → Bool
 suits block lines = if nat_lt block 2 then is_bare lines else ascends 0 lines
 
--- the lists from a block on: the first block whose list is missing or doesn't suit it, or the first list of no block
+-- of these lists, the first of which is that of `block`: the first block whose list is missing or doesn't suit it, or the number of blocks where a list is too many
 abbrev pub first_wrong_list : ℕ → ℕ → List (List ℕ) → Option ℕ
 first_wrong_list block blocks [] = if nat_lt block blocks then Some block else None
 first_wrong_list block blocks (list ∷ lists) = if nat_lt block blocks && suits block list then first_wrong_list (block + 1) blocks lists else Some block
@@ -83,7 +83,7 @@ shape_fault net =
     (option_or (option_map fault.Kind (position is_misplaced net.arcs))
     (option_map fault.Lines (first_wrong_list 0 net.blocks net.lines)))))))
 
--- so many arcs, one after another, lead from block 2 to the block
+-- a way of so many arcs leads from block 2 to the block
 abbrev pub Leads : List FlowArc → ℕ → ℕ → Type 0
 Leads arcs block zero = block ≡ 2
 Leads arcs block (suc n) = (before : ℕ) × Leads arcs before n × IsTrue (has_arc arcs before block)
@@ -108,7 +108,7 @@ pub record IsNet (net : NetValue) : Type 0 where
   pub shape : shape_fault net ≡ None
   pub reached : AllReached net.blocks net.arcs
 
--- the fault is that of a block which is not reached
+-- the fault is Apart, with the least block from 2 up that isn't reached
 abbrev pub IsApart : NetValue → NetFault → Type 0
 IsApart net (fault.Apart block) = IsLeastApart net.blocks net.arcs block
 IsApart net _ = ⊥
@@ -117,13 +117,13 @@ IsApart net _ = ⊥
 abbrev pub IsFirstFault : NetValue → NetFault → Type 0
 IsFirstFault net found = (shape_fault net ≡ Some found) ⊎ ((shape_fault net ≡ None) × IsApart net found)
 
--- the search for a fault gives the first, or none where the parts make a net
+-- the search for a fault gives the first, or none where the parts make a net; want of memory says nothing
 abbrev pub Finds : NetValue → Result (Option NetFault) AllocError → Type 0
 Finds net (Ok None) = IsNet net
 Finds net (Ok (Some found)) = IsFirstFault net found
 Finds net (Err _) = Unit {0}
 
--- the parts are made into a net of the same value, or the first fault is told
+-- the parts are made into a net of the same value, or the first fault is told; want of memory says nothing
 abbrev pub Makes : NetValue → Result NetValue (Refusal NetFault) → Type 0
 Makes net (Ok made) = (made ≡ net) × IsNet net
 Makes net (Err (refusal.Refused found)) = IsFirstFault net found

@@ -5,7 +5,7 @@ use Rattle.std.specs.List.{All, list_any, sum_by, count_by}
 use Rattle.cov_base.specs.Net.{NetValue, has_arc, joins}
 use Rattle.cov_base.specs.declared.net.FlowArc.{FlowArc}
 
--- one call of a function goes through these of its blocks, one after another
+-- the walk of one call: the number of its function, and the blocks that it goes through, in order
 pub record Walk : Type 0 where
   pub function : ℕ
   pub blocks : List ℕ
@@ -40,6 +40,7 @@ is_of_line net line block = nat_lt 1 block && list_any (λ held. held == line) (
 abbrev pub comes_to : NetValue → ℕ → ℕ × ℕ → Bool
 comes_to net line move = not (is_of_line net line move.0) && is_of_line net line move.1
 
--- in how many places of all walks a block of the line follows one that isn't, by the net of the walk's function
+-- in how many places of all walks a block of the line follows one that isn't, by the net of the walk's function; a walk of a function
+-- that has no net counts 0
 abbrev pub line_passages : List NetValue → List Walk → ℕ → ℕ
 line_passages nets walks line = sum_by (λ walk. option_map_or (λ net. count_by (comes_to net line) (moves walk.blocks)) (slice_get nets walk.function) 0) walks

@@ -16,20 +16,20 @@ pub record HasCause (before now : ℕ) (fault : Type 0) : Type 0 where
   pub stays : before ≡ 2 ^ 64 - 1 → now ≡ 2 ^ 64 - 1
   pub risen : fault → Rose before now
 
--- the first n bytes left were taken, and stand at the front of the piece; none at the end alone
+-- the first n bytes left were taken and stand at the front of the piece; for a piece with room n is 0 where no byte is left, and only there
 pub record TakesFront (before : List ℕ) (after : Option (List ℕ)) (n : ℕ) (piece : List ℕ) : Type 0 where
   pub front : take n piece ≡ take n before
   pub rest : after ≡ Some (drop n before)
   pub enough : n ≤ length before
   pub ends : 0 < length piece → (n ≡ 0) ↔ (before ≡ [])
 
--- what a read does to the bytes left
+-- what a read does to the bytes left; what isn't told stays untold
 abbrev pub Reads : Option (List ℕ) → Option (List ℕ) → Result ℕ Failed → List ℕ → Type 0
 Reads (Some before) after (Ok n) piece = TakesFront before after n piece
 Reads (Some before) after (Err fault) piece = after ≡ Some before
 Reads None after result piece = after ≡ None
 
--- what a write does to the bytes written
+-- what a write does to the bytes written; what isn't told stays untold
 abbrev pub Writes : Option (List ℕ) → Option (List ℕ) → Result ℕ SinkFault → List ℕ → Type 0
 Writes (Some before) after (Ok n) piece = after ≡ Some (before ++ take n piece)
 Writes (Some before) after (Err fault) piece = after ≡ Some before
@@ -41,12 +41,12 @@ WritesAll (Some before) after (Ok done) bytes = after ≡ Some (before ++ bytes)
 WritesAll (Some before) after (Err fault) bytes = (n : ℕ) × (n ≤ length bytes) × (after ≡ Some (before ++ take n bytes))
 WritesAll None after result bytes = after ≡ None
 
--- a file longer than the limit
+-- there is a file, and it is longer than the limit
 abbrev pub IsLonger : ℕ → Option (List ℕ) → Type 0
 IsLonger limit None = ⊥
 IsLonger limit (Some bytes) = limit < length bytes
 
--- what a load says of the files
+-- what a load says of the files; Failed and NoMemory say nothing
 abbrev pub Loads : Option (List ℕ → Option (List ℕ)) → List ℕ → ℕ → Result (Option (Vec ℕ Global)) LoadFault → Type 0
 Loads (Some files) name limit (Ok None) = files name ≡ None
 Loads (Some files) name limit (Ok (Some bytes)) = files name ≡ Some bytes.items
@@ -58,7 +58,7 @@ Loads None name limit result = Unit {0}
 abbrev pub put_file : List ℕ → List ℕ → (List ℕ → Option (List ℕ)) → List ℕ → Option (List ℕ)
 put_file name bytes before other = if bytes_eq name other then Some bytes else before other
 
--- what a replace does to the files
+-- what a replace does to the files; what isn't told stays untold
 abbrev pub Replaces : Option (List ℕ → Option (List ℕ)) → Option (List ℕ → Option (List ℕ)) → List ℕ → List ℕ → Result (Unit {0}) SinkFault → Type 0
 Replaces (Some before) after name bytes (Ok done) = after ≡ Some (put_file name bytes before)
 Replaces (Some before) after name bytes (Err fault) = after ≡ Some before

@@ -16,10 +16,10 @@ use Rattle.cov_program.specs.Graph.{Op}
 use Rattle.cov_program.specs.GraphView.{puts_ops, exit_ops, exit_of, block_of}
 use Rattle.cov_program.specs.WalkRun.{Moment, Step, Goes, Over, do_ops, leaves, over, goes_to, goes_back as goes_back_to, step_in, truth}
 use Rattle.cov_program.specs.CoverText.{output_limit}
-use Rattle.cov_program.specs.Advance.{Place, Advance, Onward, Ended, Putted, put_each, passed, tested, leaves_by, unless_full, advanced}
+use Rattle.cov_program.specs.Advance.{Position, Advance, Onward, Ended, Putted, put_each, passed, tested, leaves_by, unless_full, advanced}
 
 -- the moment of a run at a place with its walk
-abbrev pub moment_at : Place → List ℕ → Moment
+abbrev pub moment_at : Position → List ℕ → Moment
 moment_at p walk = record { block = p.block; input = p.input; output = p.output; turns = p.turns; walk = walk }
 
 -- the walk of a run that ends
@@ -55,14 +55,14 @@ puts_do most (p ∷ ps) ops m go =
     ]
 
 -- a way back does what it says
-back_does : (arc target : ℕ) (p : Place) (walk : List ℕ) (n : ℕ)
+back_does : (arc target : ℕ) (p : Position) (walk : List ℕ) (n : ℕ)
     → goes_back_to target n (moment_at p walk)
     ≡ step_of (if n == 0 then Ended ending.OutOfTurns p else Onward (passed arc target (record p { turns = n - 1 }))) walk
 back_does arc target p walk zero = refl
 back_does arc target p walk (suc n) =
     let e : n ≡ suc n - 1 = omega arith in
     let some : (suc n == 0) ≡ false = ne_eqb (suc n) 0 (λ f. absurd (omega arith)) in
-    let next : Place = record p { turns = suc n - 1 } in
+    let next : Position = record p { turns = suc n - 1 } in
     subst (λ v. goes_to target (record (moment_at p walk) { turns = n }) ≡ step_of (if v then Ended ending.OutOfTurns p else Onward (passed arc target next)) walk) (sym some)
     (ap (λ n. Goes (record (moment_at p walk) { block = target; turns = n; walk = walk ++ target ∷ [] })) e)
 
@@ -80,14 +80,14 @@ test_goes b c inside behind m =
     ])
 
 -- both ways of a test are steps
-both_ways : (v : Bool) (arc inside behind : ℕ) (p : Place) (walk : List ℕ)
+both_ways : (v : Bool) (arc inside behind : ℕ) (p : Position) (walk : List ℕ)
     → (if v then goes_to inside (moment_at p walk) else goes_to behind (moment_at p walk))
     ≡ step_of (Onward (if v then passed arc inside p else passed (arc + 1) behind p)) walk
 both_ways true arc inside behind p walk = refl
 both_ways false arc inside behind p walk = refl
 
 -- a test does what it says
-test_does : (most byte line arc inside behind : ℕ) (p : Place) (walk input : List ℕ)
+test_does : (most byte line arc inside behind : ℕ) (p : Position) (walk input : List ℕ)
     → do_ops most (exit_ops (exit.Test byte line inside behind)) [] (record (moment_at p walk) { input = input }) (leaves (exit_of (exit.Test byte line inside behind)))
     ≡ step_of (Onward (tested input byte arc inside behind (record p { input = input }))) walk
 test_does most byte line arc inside behind p walk [] = refl
@@ -96,7 +96,7 @@ test_does most byte line arc inside behind p walk (b ∷ rest) =
     ∙ both_ways (b == byte) arc inside behind (record p { input = rest }) walk
 
 -- an exit does what it says
-exit_does : (most : ℕ) (e : Exit) (arc : ℕ) (p : Place) (walk : List ℕ)
+exit_does : (most : ℕ) (e : Exit) (arc : ℕ) (p : Position) (walk : List ℕ)
     → do_ops most (exit_ops e) [] (moment_at p walk) (leaves (exit_of e)) ≡ step_of (leaves_by e arc p) walk
 exit_does most (exit.Jump target) arc p walk = refl
 exit_does most (exit.Back target) arc p walk = back_does arc target p walk p.turns
@@ -104,7 +104,7 @@ exit_does most (exit.Test byte line inside behind) arc p walk = test_does most b
 exit_does most (exit.Return status) arc p walk = refl
 
 -- an exit does what it says after a row of `putchar`s
-rest_does : (most : ℕ) (r : Putted) (e : Exit) (arc : ℕ) (p : Place) (walk : List ℕ)
+rest_does : (most : ℕ) (r : Putted) (e : Exit) (arc : ℕ) (p : Position) (walk : List ℕ)
     → then_ops most r (exit_ops e) (moment_at p walk) (leaves (exit_of e)) ≡ step_of (unless_full r.full e arc (record p { output = r.output })) walk
 rest_does most r e arc p walk =
     elim r.full as (λ full. then_ops most (record r { full = full }) (exit_ops e) (moment_at p walk) (leaves (exit_of e))
@@ -114,7 +114,7 @@ rest_does most r e arc p walk =
     ]
 
 -- what the walker does in a block is a step
-pub block_does : (b : Block) (arc : ℕ) (p : Place) (walk : List ℕ)
+pub block_does : (b : Block) (arc : ℕ) (p : Position) (walk : List ℕ)
     → step_in output_limit (Some (block_of b)) (moment_at p walk) ≡ step_of (advanced b arc p) walk
 block_does b arc p walk =
     puts_do output_limit b.puts.items (exit_ops b.exit) (moment_at p walk) (leaves (exit_of b.exit))

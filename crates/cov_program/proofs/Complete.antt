@@ -4,7 +4,7 @@ use Rattle.std.specs.Prelude.{Option, Some, None, IfSome}
 use Rattle.cov_program.specs.declared.answers.End.{End}
 use Rattle.cov_program.specs.declared.answers.End.TheVariants as answer
 use Rattle.cov_program.specs.FirstForm.{IsFirstForm}
-use Rattle.cov_program.specs.Answers.{Files, HasSource, IsLoaded, IsOver, IsRefused, IsMissing, IsTooLong, Covers, IsReady, IsDone}
+use Rattle.cov_program.specs.Answers.{Files, HasSource, IsLoaded, IsOver, IsRefused, IsMissing, IsTooLong, HasReason, IsReady, IsDone}
 
 -- a file that is there isn't missing
 there : (files : Files) (name bytes : List ℕ) → files name ≡ Some bytes → files name ≡ None → ⊥
@@ -35,23 +35,21 @@ not_too_long files source input name ready (inl m) = within files source ready.c
 not_too_long files source input name ready (inr m) = within files input ready.bytes _ ready.loaded m.2
 
 -- where nothing else may be answered, the answer is Done or NoMemory
-pub done : (files : Files) (source input before : List ℕ) (after : Option (List ℕ)) (end : End) → Covers files source input before after end → IsReady files source input
+done : (files : Files) (source input : List ℕ) (end : End) → HasReason files source input end → IsReady files source input
     → (end ≡ answer.WriteFault → ⊥) → (end ≡ answer.FolderFault → ⊥) → IsDone end
-done files source input before after answer.Done h ready w f = tt
-done files source input before after (answer.Usage fault) h ready w f = absurd h
-done files source input before after (answer.SourceRefused fault) h ready w f = absurd (formed files source ready.compiled h.0)
-done files source input before after (answer.Missing name) h ready w f = absurd (not_missing files source input (string_bytes name) ready h.0)
-done files source input before after (answer.TooLong name) h ready w f = absurd (not_too_long files source input (string_bytes name) ready h.0)
-done files source input before after answer.WriteFault h ready w f = absurd (w refl)
-done files source input before after answer.FolderFault h ready w f = absurd (f refl)
-done files source input before after answer.NoMemory h ready w f = tt
+done files source input answer.Done h ready w f = tt
+done files source input (answer.Usage fault) h ready w f = absurd h
+done files source input (answer.SourceRefused fault) h ready w f = absurd (formed files source ready.compiled h)
+done files source input (answer.Missing name) h ready w f = absurd (not_missing files source input (string_bytes name) ready h)
+done files source input (answer.TooLong name) h ready w f = absurd (not_too_long files source input (string_bytes name) ready h)
+done files source input answer.WriteFault h ready w f = absurd (w refl)
+done files source input answer.FolderFault h ready w f = absurd (f refl)
+done files source input answer.NoMemory h ready w f = tt
 
--- so where the files and the output are told
-pub complete : (files : Option Files) (before : Option (List ℕ)) (source input : List ℕ) (after : Option (List ℕ)) (end : End) (W F : Type 0)
-    → (end ≡ answer.WriteFault → W) → (end ≡ answer.FolderFault → F)
-    → IfSome files (λ files. IfSome before (λ before. Covers files source input before after end))
-    → IfSome files (λ files. IfSome before (λ before. IsReady files source input → (W → ⊥) → (F → ⊥) → IsDone end))
-complete None before source input after end W F w f h = tt
-complete (Some files) None source input after end W F w f h = tt
-complete (Some files) (Some before) source input after end W F w f h =
-    λ ready no_write no_folder. done files source input before after end h ready (λ e. no_write (w e)) (λ e. no_folder (f e))
+-- so where the files are told
+pub complete : (files : Option Files) (source input : List ℕ) (end : End) (W F : Type 0) → (end ≡ answer.WriteFault → W) → (end ≡ answer.FolderFault → F)
+    → IfSome files (λ files. HasReason files source input end)
+    → IfSome files (λ files. IsReady files source input → (W → ⊥) → (F → ⊥) → IsDone end)
+complete None source input end W F w f h = tt
+complete (Some files) source input end W F w f h =
+    λ ready no_write no_folder. done files source input end h ready (λ e. no_write (w e)) (λ e. no_folder (f e))

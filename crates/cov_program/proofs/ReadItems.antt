@@ -10,6 +10,7 @@ use Rattle.cov_program.specs.FirstForm.{Body, Empty, Put, While, Form as FormVal
 use Rattle.cov_program.specs.FormView.{item_step, item_before, body_of}
 use Rattle.cov_program.specs.Reading.{Place, Stops, Reads, ReadsNone, Goes, ReadsBlock, ReadsNoBlock, ReadsLine, HasNoLine}
 use Rattle.cov_program.proofs.OneForm.{same_tail, not_both, stops_close, stops_last, one_body}
+use Rattle.cov_program.proofs.Items.{while_before}
 
 -- what follows a body is no longer than its spelling with it
 pub spelled_long : (b : Body) (rest : List ℕ) → length rest ≤ length (spelled b rest)
@@ -160,10 +161,6 @@ no_block_close from counted end inside was h unclosed inner to block =
 pub item_put : (c : ℕ) → item_before (item.Put c) ≡ Put c
 item_put c = ap item_before (sym (rolls-Put c)) ∙ fold-roll-Item (Body → Body) item_step (Item-F.Put c)
 
--- a loop before what follows
-pub item_while : (c : ℕ) (inside : List Item) → item_before (item.While c inside) ≡ While c (body_of inside)
-item_while c inside = ap item_before (sym (rolls-While c inside)) ∙ fold-roll-Item (Body → Body) item_step (Item-F.While c inside)
-
 -- a line `putchar('C');` is an item, and takes a part of the text
 pub finds_put : (from to : Place) (c : ℕ) → ReadsLine (codes "putchar('") (codes "');\n") from c to
     → Goes from (item_before (item.Put c)) to × (length to.text < length from.text)
@@ -174,7 +171,7 @@ finds_put from to c line =
 pub finds_while : (from mid to : Place) (c : ℕ) (inside : List Item) → ReadsLine (codes "while (getchar() == '") (codes "') {\n") from c mid
     → ReadsBlock mid (body_of inside) to → Goes from (item_before (item.While c inside)) to × (length to.text < length from.text)
 finds_while from mid to c inside line block = (
-  subst (λ f. Goes from f to) (sym (item_while c inside)) (goes_while from mid to c (body_of inside) line block),
+  subst (λ f. Goes from f to) (sym (while_before c inside)) (goes_while from mid to c (body_of inside) line block),
   omega (arith, ap length line.spelling, ap length block.spelling, spelled_long (body_of inside) (codes "}\n" ++ to.text)),
 )
 

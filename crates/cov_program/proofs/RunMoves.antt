@@ -14,6 +14,7 @@ use Rattle.cov_program.specs.Graph.{Op, Push, Drop, GetChar, PutChar, Equal, Exi
 use Rattle.cov_program.specs.WalkRun.{over, Moment, Outcome, Step, Goes, Over, Stuck, byte_of, truth, got, do_ops, goes_to, goes_back, leaves, step_in, step, Runs, stops, goes, start, WalkRun}
 use Rattle.cov_program.specs.Nets.{real_arc, arcs_by, arcs_from, net_of}
 use Rattle.cov_program.specs.Exits.{IsExit, AreExits}
+use Rattle.cov_program.proofs.ArcPlaces.{exit_at}
 
 -- the moves of a walk that goes on by a block
 moves_more : (block : ℕ) (front : List ℕ) (a b : ℕ) → moves_from block ((front ++ a ∷ []) ++ b ∷ []) ≡ moves_from block (front ++ a ∷ []) ++ (a, b) ∷ []
@@ -130,18 +131,6 @@ leaves_along arcs count block walk here Return is has (x ∷ stack) m at =
     let P : List ℕ → Type 0 = λ w. GoesAlong arcs (w ++ 1 ∷ []) in
     subst P (sym at.on_walk) (along_next arcs block 1 walk here (has 1 (has_first block 1 [])))
 
--- the exit of a block of a list is one of its exits, and its arcs are among those of the list
-exit_at : (count n : ℕ) (blocks : List Block) (k : ℕ) (b : Block) → AreExits n count blocks → slice_get blocks k ≡ Some b → IsExit (n + k) count b.exit
-exit_at count n [] k b are e = cc
-exit_at count n (x ∷ xs) zero b are e =
-    let same : x ≡ b = cc in
-    let P : Block → Type 0 = λ y. IsExit (n + 0) count y.exit in
-    let at : n ≡ n + 0 = omega arith in
-    subst P same (subst (λ i. IsExit i count x.exit) at are.0)
-exit_at count n (x ∷ xs) (suc k) b are e =
-    let at : n + 1 + k ≡ n + suc k = omega arith in
-    subst (λ i. IsExit i count b.exit) at (exit_at count (n + 1) xs k b are.1 e)
-
 -- the arcs of a block of a list are among the list's
 arcs_at : (n : ℕ) (blocks : List Block) (k : ℕ) (b : Block) → slice_get blocks k ≡ Some b → (from to : ℕ)
     → has_arc (arcs_by (n + k) b.exit) from to ≡ true → has_arc (arcs_from n blocks) from to ≡ true
@@ -168,8 +157,7 @@ step_along most graph are m here = go (slice_get graph (m.block - 2)) refl
         let arcs = (net_of graph).arcs in
         let low = here.inner in
         let at : 2 + (m.block - 2) ≡ m.block = omega arith in
-        let is : IsExit m.block (2 + length graph) b.exit =
-        subst (λ i. IsExit i (2 + length graph) b.exit) at (exit_at (2 + length graph) 2 graph (m.block - 2) b are e) in
+        let is : IsExit m.block (2 + length graph) b.exit = exit_at 2 (2 + length graph) (m.block - 2) m.block graph b (sym at) are e in
         let has : HasExit arcs m.block b.exit = λ next h.
         or_right _ _ (arcs_at 2 graph (m.block - 2) b e m.block next
         (subst (λ i. has_arc (arcs_by i b.exit) m.block next ≡ true) (sym at) h)) in

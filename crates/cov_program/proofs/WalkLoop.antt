@@ -9,12 +9,12 @@ use Rattle.cov_program.specs.declared.ending.Ending.{Ending}
 use Rattle.cov_program.specs.GraphView.{exit_of, block_of, graph_seen}
 use Rattle.cov_program.specs.Nets.{arcs_by, firsts_from}
 use Rattle.cov_program.specs.Exits.{AreExits}
-use Rattle.cov_program.specs.Advance.{Place, advance, advanced}
+use Rattle.cov_program.specs.Advance.{Position, advance, advanced}
 use Rattle.cov_program.proofs.ArcPlaces.{firsts_fit, firsts_length}
 use Rattle.cov_program.proofs.Walking.{arcs_of, IsWalking, Keeps, keeps, begins, few_moves, seen_at, room}
 
 -- what a walk requires
-pub record IsReady (blocks : List Block) (firsts : List ℕ) (arcs turns : ℕ) : Type 0 where
+pub record CanWalk (blocks : List Block) (firsts : List ℕ) (arcs turns : ℕ) : Type 0 where
   pub some : 0 < length blocks
   pub few : length blocks ≤ 510
   pub exits : AreExits 2 (2 + length blocks) (graph_seen blocks)
@@ -22,7 +22,7 @@ pub record IsReady (blocks : List Block) (firsts : List ℕ) (arcs turns : ℕ) 
   pub arcs_are : arcs ≡ length (arcs_of (graph_seen blocks))
   pub short : turns ≤ 1099511627776
 
-module _ (blocks : List Block) (firsts : List ℕ) (arcs turns : ℕ) (ready : IsReady blocks firsts arcs turns) (input : List ℕ) where
+module _ (blocks : List Block) (firsts : List ℕ) (arcs turns : ℕ) (ready : CanWalk blocks firsts arcs turns) (input : List ℕ) where
   -- the definitions see as many blocks
   seen_length : length (graph_seen blocks) ≡ length blocks
   seen_length = length-map blocks block_of
@@ -32,7 +32,7 @@ module _ (blocks : List Block) (firsts : List ℕ) (arcs turns : ℕ) (ready : I
   few = subst (λ n. turns * n + (n + 2) < 2 ^ 50) (sym seen_length) (few_moves (length blocks) turns ready.few ready.short)
 
   -- the run begins
-  pub begun : (p : Place) → p ≡ record { block = 2; input = input; turns = turns; output = []; counters = set (replicate arcs 0) 0 1 }
+  pub begun : (p : Position) → p ≡ record { block = 2; input = input; turns = turns; output = []; counters = set (replicate arcs 0) 0 1 }
       → IsWalking (graph_seen blocks) input turns p
   begun p e =
       let some = ready.some in
@@ -40,20 +40,20 @@ module _ (blocks : List Block) (firsts : List ℕ) (arcs turns : ℕ) (ready : I
       (begins (graph_seen blocks) input turns arcs (omega (arith, some, seen_length)) ready.arcs_are)
 
   -- the block has a first arc
-  pub has_first : (p : Place) (k : ℕ) → k ≡ p.block - 2 → IsWalking (graph_seen blocks) input turns p → k < length firsts
+  pub has_first : (p : Position) (k : ℕ) → k ≡ p.block - 2 → IsWalking (graph_seen blocks) input turns p → k < length firsts
   has_first p k e w =
       let len = ap length ready.firsts_are in
       let within = w.within in let inside = w.inside in
       omega (arith, len, firsts_length 1 (graph_seen blocks), within, inside, e)
 
   -- the block at an index that was read
-  read_block : (p : Place) (k : ℕ) (b : Block) → k ≡ p.block - 2 → b ≡ get_or blocks k b → IsWalking (graph_seen blocks) input turns p → slice_get blocks k ≡ Some b
+  read_block : (p : Position) (k : ℕ) (b : Block) → k ≡ p.block - 2 → b ≡ get_or blocks k b → IsWalking (graph_seen blocks) input turns p → slice_get blocks k ≡ Some b
   read_block p k b e is w =
       let within = w.within in let inside = w.inside in
       slice_get_read blocks (length blocks) k b refl (omega (arith, seen_length, within, inside, e)) is
 
   -- the arcs of the block have counters
-  pub arcs_fit : (p : Place) (k : ℕ) (b : Block) → k ≡ p.block - 2 → b ≡ get_or blocks k b → IsWalking (graph_seen blocks) input turns p
+  pub arcs_fit : (p : Position) (k : ℕ) (b : Block) → k ≡ p.block - 2 → b ≡ get_or blocks k b → IsWalking (graph_seen blocks) input turns p
       → slice_index firsts k + length (arcs_by 0 (exit_of b.exit)) ≤ length p.counters
   arcs_fit p k b e is w =
       let fit = firsts_fit 2 1 k (graph_seen blocks) (block_of b) (seen_at blocks k b (read_block p k b e is w)) in
@@ -63,11 +63,11 @@ module _ (blocks : List Block) (firsts : List ℕ) (arcs turns : ℕ) (ready : I
       omega (arith, fit, len, arcs_len, same)
 
   -- the counters have room
-  pub has_room : (p : Place) → IsWalking (graph_seen blocks) input turns p → All (λ n. n < 2 ^ 50) p.counters
+  pub has_room : (p : Position) → IsWalking (graph_seen blocks) input turns p → All (λ n. n < 2 ^ 50) p.counters
   has_room p w = room (graph_seen blocks) input turns p few w
 
   -- what the walker made of a place keeps what is known
-  pub kept : (p q : Place) (k : ℕ) (b : Block) (ending : Option Ending) → k ≡ p.block - 2 → b ≡ get_or blocks k b → IsWalking (graph_seen blocks) input turns p
+  pub kept : (p q : Position) (k : ℕ) (b : Block) (ending : Option Ending) → k ≡ p.block - 2 → b ≡ get_or blocks k b → IsWalking (graph_seen blocks) input turns p
       → advanced b (slice_index firsts k) p ≡ advance ending q → Keeps (graph_seen blocks) input turns p (advance ending q)
   kept p q k b ending e is w made =
       let at = subst (λ n. slice_get blocks n ≡ Some b) e (read_block p k b e is w) in
@@ -77,7 +77,7 @@ module _ (blocks : List Block) (firsts : List ℕ) (arcs turns : ℕ) (ready : I
       subst (λ a. Keeps (graph_seen blocks) input turns p a) (ap (λ n. advanced b n p) same ∙ made) (keeps blocks input turns p b few exits at w)
 
   -- less remains where the run goes on
-  pub less : (p q : Place) → IsWalking (graph_seen blocks) input turns p → IsWalking (graph_seen blocks) input turns q
+  pub less : (p q : Position) → IsWalking (graph_seen blocks) input turns p → IsWalking (graph_seen blocks) input turns q
       → q.turns * length (graph_seen blocks) + p.block < p.turns * length (graph_seen blocks) + q.block
       → q.turns * length blocks + (2 + length blocks - q.block) < p.turns * length blocks + (2 + length blocks - p.block)
   less p q w v h =

@@ -19,7 +19,7 @@ use Rattle.cov_program.specs.WalkRun.{Outcome, Runs, stops, goes, WalkRun, step,
 use Rattle.cov_program.specs.CoverText.{output_limit}
 use Rattle.cov_program.specs.Exits.{IsExit, AreExits}
 use Rattle.cov_program.specs.Walked.{Walked, counters_of}
-use Rattle.cov_program.specs.Advance.{Place, Advance, Onward, Ended, Putted, put_each, passed, counted_at, goes_back, tested, leaves_by, unless_full, advanced}
+use Rattle.cov_program.specs.Advance.{Position, Advance, Onward, Ended, Putted, put_each, passed, counted_at, goes_back, tested, leaves_by, unless_full, advanced}
 use Rattle.cov_program.proofs.ArcCounts.{OneJoins, counters_push, counters_below, counters_start}
 use Rattle.cov_program.proofs.ArcPlaces.{joins_own, joins_not_from, joins_not_to, none_from, one_at, exit_at}
 use Rattle.cov_program.proofs.Advances.{moment_at, step_of, block_does}
@@ -30,7 +30,7 @@ arcs_of graph = (net_of graph).arcs
 
 -- A run of a graph is under way: what remains of it is what remains of the whole, the counters are those of the walk, and the walk
 -- is no longer than the turns allow.
-pub record IsWalking (graph : List BlockValue) (input : List ℕ) (turns : ℕ) (p : Place) : Type 0 where
+pub record IsWalking (graph : List BlockValue) (input : List ℕ) (turns : ℕ) (p : Position) : Type 0 where
   pub before : List ℕ
   pub inside : 2 ≤ p.block
   pub within : p.block < 2 + length graph
@@ -39,7 +39,7 @@ pub record IsWalking (graph : List BlockValue) (input : List ℕ) (turns : ℕ) 
   pub short : length before + (p.turns * length graph + (2 + length graph)) ≤ turns * length graph + (length graph + 1) + p.block
 
 -- the run goes on along just one of the arcs, and less remains of it
-pub record GoesAlong (graph : List BlockValue) (p q : Place) : Type 0 where
+pub record MovesAlong (graph : List BlockValue) (p q : Position) : Type 0 where
   pub arc : ℕ
   pub one : OneJoins p.block q.block arc (arcs_of graph)
   pub counted : q.counters ≡ counted_at p.counters arc
@@ -48,25 +48,25 @@ pub record GoesAlong (graph : List BlockValue) (p q : Place) : Type 0 where
   pub less : q.turns * length graph + p.block < p.turns * length graph + q.block
 
 -- the run ends, along just one of the arcs where it returns
-abbrev pub EndsAlong : List BlockValue → Place → Ending → Place → Type 0
+abbrev pub EndsAlong : List BlockValue → Position → Ending → Position → Type 0
 EndsAlong graph p (ending.Returned status) q = (arc : ℕ) × OneJoins p.block 1 arc (arcs_of graph) × (q.counters ≡ counted_at p.counters arc)
 EndsAlong graph p (ending.OutputLimit line) q = q.counters ≡ p.counters
 EndsAlong graph p ending.OutOfTurns q = q.counters ≡ p.counters
 
 -- what is made of a place is a move along an arc, or an end
-abbrev pub IsAlong : List BlockValue → Place → Advance → Type 0
-IsAlong graph p (Onward q) = GoesAlong graph p q
+abbrev pub IsAlong : List BlockValue → Position → Advance → Type 0
+IsAlong graph p (Onward q) = MovesAlong graph p q
 IsAlong graph p (Ended e q) = EndsAlong graph p e q
 
 -- the walk goes on, with less that remains, or the graph is walked
-abbrev pub Keeps : List BlockValue → List ℕ → ℕ → Place → Advance → Type 0
+abbrev pub Keeps : List BlockValue → List ℕ → ℕ → Position → Advance → Type 0
 Keeps graph input turns p (Onward q) = IsWalking graph input turns q × (q.turns * length graph + p.block < p.turns * length graph + q.block)
 Keeps graph input turns p (Ended e q) = Walked graph input turns q.output (ending_of e) q.counters × All (λ n. n < 2 ^ 50) q.counters
 
 -- a run that goes on is under way
-goes_on : (graph : List BlockValue) (input : List ℕ) (turns : ℕ) (p q : Place) (w : IsWalking graph input turns p)
+goes_on : (graph : List BlockValue) (input : List ℕ) (turns : ℕ) (p q : Position) (w : IsWalking graph input turns p)
     → step output_limit graph (moment_at p (w.before ++ p.block ∷ [])) ≡ step_of (Onward q) (w.before ++ p.block ∷ [])
-    → GoesAlong graph p q → IsWalking graph input turns q
+    → MovesAlong graph p q → IsWalking graph input turns q
 goes_on graph input turns p q w is along = record {
   before = w.before ++ p.block ∷ [];
   inside = along.inside;
@@ -83,14 +83,14 @@ below graph front a counters few e =
     subst (λ ns. All (λ n. n < 2 ^ 50) ns) (sym e) (counters_below (arcs_of graph) front a (2 ^ 50) few)
 
 -- the counters of a run under way are small
-pub room : (graph : List BlockValue) (input : List ℕ) (turns : ℕ) (p : Place) → turns * length graph + (length graph + 2) < 2 ^ 50
+pub room : (graph : List BlockValue) (input : List ℕ) (turns : ℕ) (p : Position) → turns * length graph + (length graph + 2) < 2 ^ 50
     → IsWalking graph input turns p → All (λ n. n < 2 ^ 50) p.counters
 room graph input turns p few w =
     let short = w.short in let within = w.within in
     below graph w.before p.block p.counters (omega (arith, short, within, few)) w.counted
 
 -- a run that ends has walked the graph
-ends : (graph : List BlockValue) (input : List ℕ) (turns : ℕ) (p : Place) (e : Ending) (q : Place) → turns * length graph + (length graph + 2) < 2 ^ 50
+ends : (graph : List BlockValue) (input : List ℕ) (turns : ℕ) (p : Position) (e : Ending) (q : Position) → turns * length graph + (length graph + 2) < 2 ^ 50
     → (w : IsWalking graph input turns p)
     → step output_limit graph (moment_at p (w.before ++ p.block ∷ [])) ≡ step_of (Ended e q) (w.before ++ p.block ∷ [])
     → EndsAlong graph p e q → Walked graph input turns q.output (ending_of e) q.counters × All (λ n. n < 2 ^ 50) q.counters
@@ -112,7 +112,7 @@ ends graph input turns p ending.OutOfTurns q few w is along = (
 )
 
 -- a step along the arcs keeps what is known of a run
-keeps_along : (graph : List BlockValue) (input : List ℕ) (turns : ℕ) (p : Place) (a : Advance) → turns * length graph + (length graph + 2) < 2 ^ 50
+keeps_along : (graph : List BlockValue) (input : List ℕ) (turns : ℕ) (p : Position) (a : Advance) → turns * length graph + (length graph + 2) < 2 ^ 50
     → (w : IsWalking graph input turns p)
     → step output_limit graph (moment_at p (w.before ++ p.block ∷ [])) ≡ step_of a (w.before ++ p.block ∷ [])
     → IsAlong graph p a → Keeps graph input turns p a
@@ -130,9 +130,9 @@ first_stands graph block first to arcs stand h =
     let e : first + 0 ≡ first = omega arith in subst (λ n. OneJoins block to n (arcs_of graph)) e (stand to 0 h)
 
 -- an arc is passed to a block
-goes_by : (graph : List BlockValue) (p r : Place) (arc target : ℕ) → r.counters ≡ p.counters → OneJoins p.block target arc (arcs_of graph)
+goes_by : (graph : List BlockValue) (p r : Position) (arc target : ℕ) → r.counters ≡ p.counters → OneJoins p.block target arc (arcs_of graph)
     → 2 ≤ target → target < 2 + length graph → r.turns * length graph + p.block < p.turns * length graph + target
-    → GoesAlong graph p (passed arc target r)
+    → MovesAlong graph p (passed arc target r)
 goes_by graph p r arc target same one inside within less = record {
   arc = arc;
   one = one;
@@ -148,7 +148,7 @@ one_less zero m h = absurd (h refl)
 one_less (suc n) m h = let e : suc n - 1 ≡ n = omega arith in subst (λ k. k * m + m ≡ suc n * m) (sym e) (omega arith)
 
 -- a way back takes a turn, or the run ends
-back_along : (graph : List BlockValue) (p r : Place) (first target : ℕ) → r.counters ≡ p.counters → r.turns ≡ p.turns
+back_along : (graph : List BlockValue) (p r : Position) (first target : ℕ) → r.counters ≡ p.counters → r.turns ≡ p.turns
     → p.block < 2 + length graph → 2 ≤ target → target < 2 + length graph → OneJoins p.block target first (arcs_of graph)
     → IsAlong graph p (goes_back first target r)
 back_along graph p r first target same turns below inside within one =
@@ -160,22 +160,22 @@ back_along graph p r first target same turns below inside within one =
     goes_by graph p (record r { turns = r.turns - 1 }) first target same one inside within (omega (arith, less, still)))
 
 -- a test goes along one of two arcs
-test_along : (graph : List BlockValue) (p r : Place) (first byte inside behind : ℕ) (input : List ℕ) → r.counters ≡ p.counters → r.turns ≡ p.turns
+test_along : (graph : List BlockValue) (p r : Position) (first byte inside behind : ℕ) (input : List ℕ) → r.counters ≡ p.counters → r.turns ≡ p.turns
     → 2 ≤ p.block → p.block < inside → inside < behind → behind < 2 + length graph
     → OneJoins p.block inside first (arcs_of graph) → OneJoins p.block behind (first + 1) (arcs_of graph)
-    → GoesAlong graph p (tested input byte first inside behind r)
+    → MovesAlong graph p (tested input byte first inside behind r)
 test_along graph p r first byte inside behind [] same turns low up more high one two =
     let still : r.turns * length graph ≡ p.turns * length graph = ap (λ n. n * length graph) turns in
     goes_by graph p r (first + 1) behind same two (omega arith) high (omega (arith, still))
 test_along graph p r first byte inside behind (b ∷ rest) same turns low up more high one two =
-    let next : Place = record r { input = rest } in
+    let next : Position = record r { input = rest } in
     let still : r.turns * length graph ≡ p.turns * length graph = ap (λ n. n * length graph) turns in
-    cond_both (b == byte) (passed first inside next) (passed (first + 1) behind next) (GoesAlong graph p)
+    cond_both (b == byte) (passed first inside next) (passed (first + 1) behind next) (MovesAlong graph p)
     (λ e. goes_by graph p next first inside same one (omega arith) (omega arith) (omega (arith, still)))
     (λ e. goes_by graph p next (first + 1) behind same two (omega arith) high (omega (arith, still)))
 
 -- an exit goes along one of its arcs, or the run ends
-exit_along : (graph : List BlockValue) (e : Exit) (p r : Place) (first : ℕ) → r.counters ≡ p.counters → r.turns ≡ p.turns
+exit_along : (graph : List BlockValue) (e : Exit) (p r : Position) (first : ℕ) → r.counters ≡ p.counters → r.turns ≡ p.turns
     → 2 ≤ p.block → p.block < 2 + length graph → IsExit p.block (2 + length graph) (exit_of e)
     → StandAt graph p.block first (arcs_by p.block (exit_of e)) → IsAlong graph p (leaves_by e first r)
 exit_along graph (exit.Jump target) p r first same turns low below is stand =
@@ -197,7 +197,7 @@ exit_along graph (exit.Return status) p r first same turns low below is stand = 
 )
 
 -- the run ends where the output is full, else goes on by the exit
-full_along : (graph : List BlockValue) (full : Option ℕ) (e : Exit) (p r : Place) (first : ℕ) → r.counters ≡ p.counters → r.turns ≡ p.turns
+full_along : (graph : List BlockValue) (full : Option ℕ) (e : Exit) (p r : Position) (first : ℕ) → r.counters ≡ p.counters → r.turns ≡ p.turns
     → 2 ≤ p.block → p.block < 2 + length graph → IsExit p.block (2 + length graph) (exit_of e)
     → StandAt graph p.block first (arcs_by p.block (exit_of e)) → IsAlong graph p (unless_full full e first r)
 full_along graph None e p r first same turns low below is stand = exit_along graph e p r first same turns low below is stand
@@ -217,7 +217,7 @@ pub seen_at : (blocks : List Block) (k : ℕ) (b : Block) → slice_get blocks k
 seen_at blocks k b at = slice_get-map block_of blocks k ∙ ap (option_map block_of) at
 
 -- the walk goes on by what the walker does in a block, with less that remains, or the graph is walked
-pub keeps : (blocks : List Block) (input : List ℕ) (turns : ℕ) (p : Place) (b : Block)
+pub keeps : (blocks : List Block) (input : List ℕ) (turns : ℕ) (p : Position) (b : Block)
     → turns * length (graph_seen blocks) + (length (graph_seen blocks) + 2) < 2 ^ 50
     → AreExits 2 (2 + length (graph_seen blocks)) (graph_seen blocks)
     → slice_get blocks (p.block - 2) ≡ Some b

@@ -55,7 +55,7 @@ line_parts answer.FolderFault h = refl
 line_parts answer.NoMemory h = refl
 
 -- the line of Done is empty
-pub line_of-Done : (told : Option (List ℕ)) → IfSome told (λ before. IsFront (line_of answer.Done) before told)
+pub line_of-Done : (told : Option (List ℕ)) (done : Unit {0}) → WritesAll told told (Ok done) (line_of answer.Done)
 unfolding line_of
-line_of-Done None = tt
-line_of-Done (Some before) = record { count = 0; within = omega arith; written = ap Some (sym (append-nil before)) }
+line_of-Done None done = refl
+line_of-Done (Some before) done = ap Some (sym (append-nil before))

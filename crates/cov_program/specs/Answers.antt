@@ -40,18 +40,19 @@ pub record IsCovering (files : Files) (source input text : List ℕ) : Type 0 wh
   pub loaded : IsLoaded files input file_limit input_bytes
   pub whole : IsCoverText source source_bytes input input_bytes form text
 
--- A file of a limited length is longer than that.
+-- The file is there and longer than the limit.
 pub record IsOver (files : Files) (name : List ℕ) (limit : ℕ) : Type 0 where
   pub bytes : List ℕ
   pub there : files name ≡ Some bytes
   pub long : limit < length bytes
 
--- The file that `cover` misses is the source, or the input where the source stands.
+-- The file that isn't there is the source; or it is the input, and the source is there, within its limit and of the first form.
 abbrev pub IsMissing : Files → List ℕ → List ℕ → List ℕ → Type 0
 IsMissing files source input name =
     ((name ≡ source) × (files source ≡ None)) ⊎ ((name ≡ input) × HasSource files source × (files input ≡ None))
 
--- The file that is too long for `cover` is the source, or the input where the source stands.
+-- The file that is longer than its limit is the source; or it is the input, and the source is there, within its limit and of the first
+-- form.
 abbrev pub IsTooLong : Files → List ℕ → List ℕ → List ℕ → Type 0
 IsTooLong files source input name =
     ((name ≡ source) × IsOver files source source_limit) ⊎ ((name ≡ input) × HasSource files source × IsOver files input file_limit)
@@ -68,7 +69,7 @@ pub record IsFront (text before : List ℕ) (after : Option (List ℕ)) : Type 0
   pub within : count ≤ length text
   pub written : after ≡ Some (before ++ take count text)
 
--- Nothing was written, or a front of the text of `cover`.
+-- Nothing was written, or the first bytes of a text of `cover`.
 abbrev pub WritesFront : Files → List ℕ → List ℕ → List ℕ → Option (List ℕ) → Type 0
 WritesFront files source input before after =
     (after ≡ Some before) ⊎ ((text : List ℕ) × IsCovering files source input text × IsFront text before after)
@@ -92,6 +93,24 @@ pub record IsReady (files : Files) (source input : List ℕ) : Type 0 where
   pub compiled : HasSource files source
   pub bytes : List ℕ
   pub loaded : IsLoaded files input file_limit bytes
+
+-- Why `cover` ends so, for the files as it began, whatever became of the output.
+abbrev pub HasReason : Files → List ℕ → List ℕ → End → Type 0
+HasReason files source input answer.Done = IsReady files source input
+HasReason files source input (answer.Usage fault) = ⊥
+HasReason files source input (answer.SourceRefused fault) = IsRefused files source
+HasReason files source input (answer.Missing name) = IsMissing files source input (string_bytes name)
+HasReason files source input (answer.TooLong name) = IsTooLong files source input (string_bytes name)
+HasReason files source input answer.WriteFault = IsReady files source input
+HasReason files source input answer.FolderFault = Unit {0}
+HasReason files source input answer.NoMemory = Unit {0}
+
+-- the answer comes where nothing is written
+abbrev pub IsUnwritten : End → Type 0
+IsUnwritten answer.Done = ⊥
+IsUnwritten answer.WriteFault = ⊥
+IsUnwritten answer.NoMemory = ⊥
+IsUnwritten _ = Unit {0}
 
 -- the answer is Done, or NoMemory
 abbrev pub IsDone : End → Type 0

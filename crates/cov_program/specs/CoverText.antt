@@ -87,7 +87,7 @@ is_closed (Returned status) = true
 is_closed (OutputLimit line) = false
 is_closed OutOfTurns = false
 
--- the walks that count: that of `main` where the run is closed, else none
+-- the walks that count: that of a closed run; a run that isn't closed has none
 abbrev pub closed_walks : Outcome → List Walk
 closed_walks run = if is_closed run.ending then record { function = 0; blocks = run.walk } ∷ [] else []
 
@@ -101,7 +101,7 @@ report_text name source nets walks =
     head_text name (length walks) ++ annotated_lines (line_count nets walks) 1 (lines_in source)
 
 -- The text is what `cover` writes for a source of this form and an input, with their names: the run's text by the meaning of the
--- source, and the report on the walk of the run of its graph.
+-- source, and the report on the walk of the run of its graph. (Both speak of one run: the walk run has the meaning's output and ending.)
 pub record IsCoverText (source_name source input_name input : List ℕ) (form : Form) (text : List ℕ) : Type 0 where
   pub outcome : Outcome
   pub run : WalkRun output_limit (graph_of form) input default_turns outcome

@@ -18,6 +18,7 @@ pub data Exit : Type 0 where
   Branch : ℕ → ℕ → Exit
   Return : Exit
 
+-- A block's operations, how it ends, and its source lines in ascending order.
 pub record Block : Type 0 where
   pub ops : List Op
   pub exit : Exit
@@ -51,7 +52,7 @@ blocks_of r = r.current ∷ r.later
 
 -- What is left from a body on, whose first line is `line`, where `next` is the number of the next block that begins and `after`
 -- is what is left behind the body. A loop ends the open block by a jump to its head `next`; the head tests and goes to the inside,
--- `next + 1`, or to the block behind the loop; the inside goes back to the head.
+-- `next + 1`, or to the block behind the loop; the inside goes back to the head. So each loop begins three blocks.
 abbrev pub rest_from : Body → ℕ → ℕ → Rest → Rest
 rest_from Empty line next after = after
 rest_from (Put c more) line next after = first_do (put_ops c line) line (rest_from more (line + 1) next after)

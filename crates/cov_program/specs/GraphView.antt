@@ -18,12 +18,14 @@ exit_ops (exit.Back block) = []
 exit_ops (exit.Test byte line inside behind) = test_ops byte line
 exit_ops (exit.Return status) = Push status ∷ []
 
+-- the exit that the definitions see; the test and the status stand among the block's operations
 abbrev pub exit_of : Exit → ExitValue
 exit_of (exit.Jump block) = Jump block
 exit_of (exit.Back block) = Back block
 exit_of (exit.Test byte line inside behind) = Branch inside behind
 exit_of (exit.Return status) = Return
 
+-- the block that the definitions see
 abbrev pub block_of : Block → BlockValue
 block_of b = record { ops = puts_ops b.puts.items ++ exit_ops b.exit; exit = exit_of b.exit; lines = b.lines.items }
 

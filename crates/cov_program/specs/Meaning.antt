@@ -1,4 +1,5 @@
--- What a source of the first form does on an input, read off its text alone (C17 6.5.2.2, 6.5.9, 6.8.5.1, 6.8.6.4, 7.21.7.6, 7.21.7.8).
+-- What a source of the first form does on an input, read off its text alone (C17 5.1.2.2.3, 6.4.4.4, 6.5.2.2,
+-- 6.5.9, 6.8.5.1, 6.8.6.4, 7.21.7.6, 7.21.7.8).
 use Rattle.std.specs.Prelude.{ℕ, zero, suc, ◌+◌, ◌==◌, nat_lt, List, [], ◌∷◌, ◌++◌, length, if◌then◌else◌}
 use Rattle.cov_program.specs.FirstForm.{Body, Empty, Put, While, Form, lines_of}
 use Rattle.cov_program.specs.Ending.{Ending, Returned, OutputLimit, OutOfTurns}
@@ -19,18 +20,18 @@ abbrev pub then_on : Flow → (World → Flow) → Flow
 then_on (Falls w) go = go w
 then_on (Stops output ending) go = Stops output ending
 
--- `putchar('C')` on a line, where `most` bytes may be put in all
+-- `putchar('C')` on a line and then what follows; where `most` bytes are out already, the run stops at this line
 abbrev pub put : ℕ → ℕ → ℕ → World → (World → Flow) → Flow
 put most c line w go =
     if nat_lt (length w.output) most then go (record w { output = w.output ++ c ∷ [] }) else Stops w.output (OutputLimit line)
 
--- `getchar() == 'C'`: the next byte is taken, and where it is C the loop's inside follows
+-- `getchar() == 'C'`: the next byte is taken, and where it is C the inside follows; else, and at the end of the input, the loop is left
 abbrev pub test : ℕ → List ℕ → World → (World → Flow) → Flow
 test c [] w inside = Falls w
 test c (b ∷ rest) w inside =
     if b == c then inside (record w { input = rest }) else Falls (record w { input = rest })
 
--- What a loop with this character, this inside and this line does from its start, once a turn was taken.
+-- How a loop with this character, this inside and this line goes on once it has gone back to its start.
 abbrev pub Later : Type 0
 Later = ℕ → Body → ℕ → World → Flow
 
@@ -47,7 +48,8 @@ does most later (While c inner more) line w =
     then_on (test c w.input w (λ w. then_on (does most later inner (line + 1) w) (λ w. again w.turns w (later c inner line))))
     (λ w. does most later more (line + 2 + lines_of inner) w)
 
--- loops from their start, for up to so many turns more
+-- loops once they went back, for at most so many turns more; in `meaning` the bound is never below the turns that are left, so its last
+-- case isn't met
 abbrev pub later_at : ℕ → ℕ → Later
 later_at most zero c inner line w = Stops w.output OutOfTurns
 later_at most (suc n) c inner line w =
@@ -58,7 +60,7 @@ pub record Result : Type 0 where
   pub output : List ℕ
   pub ending : Ending
 
--- a run that is left at the end of the body returns the status
+-- a run that comes to the end of the body returns the status; one that stopped keeps its output and ending
 abbrev pub result_of : ℕ → Flow → Result
 result_of status (Falls w) = record { output = w.output; ending = Returned status }
 result_of status (Stops output ending) = record { output = output; ending = ending }

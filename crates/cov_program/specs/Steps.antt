@@ -43,7 +43,7 @@ IsEarly (answer.Usage fault) = ⊥
 IsEarly answer.WriteFault = ⊥
 IsEarly _ = Unit {0}
 
--- the counters that count: those of a closed run, else zeros
+-- the counters of a closed run, and as many zeros for any other
 abbrev pub settled : Ending → List ℕ → List ℕ
 settled ending counters = if is_closed ending then counters else replicate (length counters) 0
 

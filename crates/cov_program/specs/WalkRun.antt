@@ -25,7 +25,7 @@ pub data Step : Type 0 where
   Over : Outcome → Step
   Stuck : Step
 
--- the byte that `putchar` puts for a number
+-- a number modulo 256: the byte that `putchar` puts, and the status that `main` returns
 abbrev pub byte_of : ℤ → ℕ
 byte_of (pos n) = n % 256
 byte_of (negsuc n) = 255 - n % 256
@@ -69,7 +69,7 @@ abbrev pub goes_back : ℕ → ℕ → Moment → Step
 goes_back block zero m = over m OutOfTurns
 goes_back block (suc turns) m = goes_to block (record m { turns = turns })
 
--- the end of a block
+-- a block is left by its exit, with the stack that its operations left
 abbrev pub leaves : Exit → List ℤ → Moment → Step
 leaves (Jump block) stack m = goes_to block m
 leaves (Back block) stack m = goes_back block m.turns m

@@ -24,6 +24,8 @@ ghost use Rattle.cov_program.specs.Answers.{
   IsReady,
   IsDone,
   IsUsage,
+  IsUnwritten,
+  HasReason,
   IsFront,
   line_of,
   words_in,
@@ -64,13 +66,16 @@ pub fn perform<S: Source, K: Sink, E: Sink, F: Folder>(
         → IfSome (F.files folder.old) (λ files. IfSome (K.written out.old)
         (λ before. Covers files source name before (K.written out.new) result)) }
 
+    // Why `cover` ends so, where the folder tells its bytes.
+    ensures reason { (source name : List ℕ) → IsCover (map string_bytes words.now) source name
+        → IfSome (F.files folder.old) (λ files. HasReason files source name result) }
+
     // With both files in order and no fault, `cover` is done or out of memory.
     ensures complete { (source name : List ℕ) → IsCover (map string_bytes words.now) source name
-        → IfSome (F.files folder.old) (λ files. IfSome (K.written out.old)
-        (λ before. IsReady files source name
+        → IfSome (F.files folder.old) (λ files. IsReady files source name
         → (Rose (K.faults out.old) (K.faults out.new) → ⊥)
         → (Rose (F.faults folder.old) (F.faults folder.new) → ⊥)
-        → IsDone result)) }
+        → IsDone result) }
 
     // Words that are no command change nothing.
     ensures usage { (result ≡ End.Usage UsageFault.NotBuilt)
@@ -80,13 +85,16 @@ pub fn perform<S: Source, K: Sink, E: Sink, F: Folder>(
     // What stands after every command, and when the outside is blamed.
     ensures files { F.files folder.new ≡ F.files folder.old }
     ensures input { input.new ≡ input.old }
-    ensures write_fault { result ≡ End.WriteFault → Rose (K.faults out.old) (K.faults out.new) }
-    ensures folder_fault { result ≡ End.FolderFault → Rose (F.faults folder.old) (F.faults folder.new) }
+    ensures unwritten { IsUnwritten result → out.new ≡ out.old }
+    ensures silent { result ≡ End.Done → err.new ≡ err.old }
+    ensures write_fault { HasCause (K.faults out.old) (K.faults out.new) (result ≡ End.WriteFault) }
+    ensures folder_fault { HasCause (F.faults folder.old) (F.faults folder.new) (result ≡ End.FolderFault) }
+    ensures err_faults { HasCause (E.faults err.old) (E.faults err.new) ⊥ }
     ensures err { IfSome (E.written err.old) (λ before. IsFront (line_of result) before (E.written err.new)) }
 {
     let _ = input;
     let end = answer(alloc, words, out, folder);
-    tell(&end, err);
+    let _ = tell(&end, err);
     end
 }
 
@@ -94,12 +102,15 @@ fn answer<K: Sink, F: Folder>(alloc: Global, words: &[String], out: &mut K, fold
     ensures covers { (source name : List ℕ) → IsCover (map string_bytes words.now) source name
         → IfSome (F.files folder.old) (λ files. IfSome (K.written out.old)
         (λ before. Covers files source name before (K.written out.new) result)) }
+    ensures reason { (source name : List ℕ) → IsCover (map string_bytes words.now) source name
+        → IfSome (F.files folder.old) (λ files. HasReason files source name result) }
     ensures usage { (result ≡ End.Usage UsageFault.NotBuilt)
         ↔ ((source name : List ℕ) → IsCover (map string_bytes words.now) source name → ⊥) }
     ensures usage_leaves { IsUsage result → (out.new ≡ out.old) × (folder.new ≡ folder.old) }
     ensures files { F.files folder.new ≡ F.files folder.old }
-    ensures write_fault { result ≡ End.WriteFault → Rose (K.faults out.old) (K.faults out.new) }
-    ensures folder_fault { result ≡ End.FolderFault → Rose (F.faults folder.old) (F.faults folder.new) }
+    ensures unwritten { IsUnwritten result → out.new ≡ out.old }
+    ensures write_fault { HasCause (K.faults out.old) (K.faults out.new) (result ≡ End.WriteFault) }
+    ensures folder_fault { HasCause (F.faults folder.old) (F.faults folder.new) (result ≡ End.FolderFault) }
 {
     match cover_words(words) {
         None => End::Usage(UsageFault::NotBuilt),
@@ -118,10 +129,13 @@ fn cover<K: Sink, F: Folder>(
     requires stem { names.stem.now ≡ stem names.source.now }
     ensures covers { IfSome (F.files folder.old) (λ files. IfSome (K.written out.old)
         (λ before. Covers files names.entry.source.now names.entry.input.now before (K.written out.new) result)) }
+    ensures reason { IfSome (F.files folder.old)
+        (λ files. HasReason files names.entry.source.now names.entry.input.now result) }
     ensures usage { IsUsage result → ⊥ }
     ensures files { F.files folder.new ≡ F.files folder.old }
-    ensures write_fault { result ≡ End.WriteFault → Rose (K.faults out.old) (K.faults out.new) }
-    ensures folder_fault { result ≡ End.FolderFault → Rose (F.faults folder.old) (F.faults folder.new) }
+    ensures unwritten { IsUnwritten result → out.new ≡ out.old }
+    ensures write_fault { HasCause (K.faults out.old) (K.faults out.new) (result ≡ End.WriteFault) }
+    ensures folder_fault { HasCause (F.faults folder.old) (F.faults folder.new) (result ≡ End.FolderFault) }
 {
     match text_for(alloc, names, folder) {
         Ok(text) => write_text(out, &text),
@@ -177,7 +191,8 @@ fn formed(alloc: Global, source: &[u8]) -> Result<Form, End>
 /// Writes the whole text, and says how that ended.
 fn write_text<K: Sink>(out: &mut K, text: &[u8]) -> End
     ensures writes { WritesText (K.written out.old) (K.written out.new) text.now result }
-    ensures write_fault { result ≡ End.WriteFault → Rose (K.faults out.old) (K.faults out.new) }
+    ensures written { IsUnwritten result → ⊥ }
+    ensures write_fault { HasCause (K.faults out.old) (K.faults out.new) (result ≡ End.WriteFault) }
 {
     match write_all(out, text) {
         Ok(()) => End::Done,

@@ -1,27 +1,28 @@
 //! What an answer says on the error output.
 
-ghost use Rattle.std.specs.Prelude.{◌≡◌, ◌∷◌, [], ◌++◌, IfSome};
-ghost use Rattle.cov_outside.specs.Outside.{WritesAll};
-ghost use Rattle.cov_program.specs.Answers.{IsFront, line_of, words_in, name_in};
+ghost use Rattle.std.specs.Prelude.{◌≡◌, ◌∷◌, [], ◌++◌, IsErrOf};
+ghost use Rattle.cov_outside.specs.Outside.{HasCause, WritesAll};
+ghost use Rattle.cov_program.specs.Answers.{line_of, words_in, name_in};
 
 use crate::answers::End;
 use cov_outside::{Sink, SinkFault, write_all};
 
-/// Writes the line of the answer, if it has one. A fault of the output changes nothing but that the line may be cut.
-pub fn tell<E: Sink>(end: &End, err: &mut E)
-    ensures { IfSome (E.written err.old) (λ before. IsFront (line_of end.now) before (E.written err.new)) }
+/// Writes the line of the answer, if it has one. After a fault of the output a front of the line was written.
+pub fn tell<E: Sink>(end: &End, err: &mut E) -> Result<(), SinkFault>
+    ensures line { WritesAll (E.written err.old) (E.written err.new) result (line_of end.now) }
+    ensures cause { HasCause (E.faults err.old) (E.faults err.new) (IsErrOf result SinkFault.Failed) }
+    ensures silent { end.now ≡ End.Done → err.new ≡ err.old }
 {
     match end {
-        End::Done => {}
-        _ => {
-            let _ = write_line(err, words_of(end), name_of(end));
-        }
+        End::Done => Ok(()),
+        _ => write_line(err, words_of(end), name_of(end)),
     }
 }
 
 /// Writes the words, the name and a newline.
 fn write_line<E: Sink>(err: &mut E, words: &[u8], name: &[u8]) -> Result<(), SinkFault>
-    ensures { WritesAll (E.written err.old) (E.written err.new) result (words.now ++ (name.now ++ 10 ∷ [])) }
+    ensures line { WritesAll (E.written err.old) (E.written err.new) result (words.now ++ (name.now ++ 10 ∷ [])) }
+    ensures cause { HasCause (E.faults err.old) (E.faults err.new) (IsErrOf result SinkFault.Failed) }
 {
     write_all(err, words)?;
     write_all(err, name)?;

@@ -14,16 +14,10 @@ mod number;
 mod pieces;
 mod plan;
 mod reader;
-#[cfg(test)]
-mod reader_tests;
 mod rendering;
 mod texts;
-#[cfg(test)]
-mod texts_tests;
 mod unit;
 mod walker;
-#[cfg(test)]
-mod walker_tests;
 mod words;
 
 pub use answers::{End, SourceFault, UsageFault, status_of};

@@ -8,7 +8,7 @@ ghost use Rattle.cov_program.specs.Nets.{net_of, firsts_from, arcs_by};
 ghost use Rattle.cov_program.specs.CoverText.{output_limit};
 ghost use Rattle.cov_program.specs.Exits.{AreExits};
 ghost use Rattle.cov_program.specs.Walked.{Walked};
-ghost use Rattle.cov_program.specs.Advance.{Place, Putted, advance, advanced, counted_at, goes_back, leaves_by, passed, put_each, tested};
+ghost use Rattle.cov_program.specs.Advance.{Position, Putted, advance, advanced, counted_at, goes_back, leaves_by, passed, put_each, tested};
 
 use crate::ending::Ending;
 use crate::graph::{Block, Exit, Put};
@@ -29,7 +29,7 @@ pub struct Run {
 /// Where a run stands at the start of a block: the input and the turns that are left, the output so
 /// far, and how often each arc was passed.
 #[derive(Drop)]
-struct Moment<'a> {
+struct Position<'a> {
     block: usize,
     input: &'a [u8],
     turns: u64,
@@ -37,28 +37,28 @@ struct Moment<'a> {
     counters: Vec<u64>,
 }
 
-impl<'a> Model for Moment<'a> {
-    ghost use Rattle.cov_program.specs.Advance.{Place};
+impl<'a> Model for Position<'a> {
+    ghost use Rattle.cov_program.specs.Advance.{Position};
 
-    ghost Value = { Place };
+    ghost Value = { Position };
 
     ghost view = { λ m. record { block = m.block; input = m.input.now; turns = m.turns; output = m.output.items; counters = m.counters.items } };
 }
 
-impl<'a> Moment<'a> {
+impl<'a> Position<'a> {
     /// The start of a run in block 2, to which the first of the arcs led.
     fn start(
         alloc: Global,
         input: &'a [u8],
         turns: u64,
         arcs: usize,
-    ) -> Result<Moment<'a>, AllocError>
+    ) -> Result<Position<'a>, AllocError>
         requires { 0 < arcs }
         ensures { IfOk result (λ p. p ≡ record { block = 2; input = input.now; turns = turns; output = []; counters = slice_set (replicate arcs 0) 0 1 }) }
     {
         let mut counters = vec![in alloc; 0; arcs]?;
         counters[0] = 1;
-        Ok(Moment {
+        Ok(Position {
             block: 2,
             input,
             turns,
@@ -191,17 +191,17 @@ pub fn walk(
     ensures walked { IfOk result (λ run. Walked (graph_seen blocks.now) input.now turns run.output.items (ending_of run.ending) run.counters.items) }
     ensures below { IfOk result (λ run. All (λ n. n < 2 ^ 50) run.counters.items) }
 {
-    let mut moment = Moment::start(alloc, input, turns, arcs)?;
+    let mut position = Position::start(alloc, input, turns, arcs)?;
     loop {
-        let at = moment.block - 2;
-        match moment.step(&blocks[at], firsts[at]) {
+        let at = position.block - 2;
+        match position.step(&blocks[at], firsts[at]) {
             Ok(None) => {}
             Ok(Some(ending)) => {
-                let Moment {
+                let Position {
                     output,
                     counters,
                     ..
-                } = moment;
+                } = position;
                 return Ok(Run {
                     output,
                     ending,

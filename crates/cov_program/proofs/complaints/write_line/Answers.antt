@@ -4,11 +4,11 @@ use Rattle.std.proofs.lemmas.Result.{err_from_is_err_and}
 use Rattle.cov_program.proofs.WriteLaws.{cut_first, both}
 use Rattle.cov_program.proofs.complaints.write_line.Goals as goal
 
-pub returns-in_err-write_all-2 : goal.returns-in_err-write_all-2
-returns-in_err-write_all-2 g c =
+pub returns-in_err-write_all-2-clause-line : goal.returns-in_err-write_all-2-clause-line
+returns-in_err-write_all-2-clause-line g c =
     let p = err_from_is_err_and c.from_residual-in_err-write_all-2.result c.from_residual-in_err-write_all-2.ensures.1 in
     rw (p.1, p.2) (both _ _ _ _ _ c.args.words.now (c.args.name.now ++ 10 ∷ []) c.in_ok-write_all.ensures.writes (cut_first _ _ _ c.args.name.now (10 ∷ []) c.in_err-write_all-2.ensures.writes))
 
-pub returns : goal.returns
-returns g c =
+pub returns-clause-line : goal.returns-clause-line
+returns-clause-line g c =
     both _ _ _ _ _ c.args.words.now (c.args.name.now ++ 10 ∷ []) c.in_ok-write_all.ensures.writes (both _ _ _ _ _ c.args.name.now (10 ∷ []) c.in_ok-write_all-2.ensures.writes c.write_all-3.ensures.writes)

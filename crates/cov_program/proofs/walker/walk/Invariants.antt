@@ -4,7 +4,7 @@ use Rattle.cov_program.proofs.Walking.{IsWalking}
 use Rattle.cov_program.proofs.walker.walk.Given as goal
 
 abbrev pub invariant-loop-ending : goal.invariant-loop-ending
-invariant-loop-ending l = IsWalking (graph_seen l.blocks) l.input l.turns l.moment
+invariant-loop-ending l = IsWalking (graph_seen l.blocks) l.input l.turns l.position
 
 abbrev pub decreases-loop-ending : goal.decreases-loop-ending
-decreases-loop-ending l = l.moment.turns * length l.blocks + (2 + length l.blocks - l.moment.block)
+decreases-loop-ending l = l.position.turns * length l.blocks + (2 + length l.blocks - l.position.block)
