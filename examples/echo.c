@@ -1,0 +1,7 @@
+int main(void) {
+putchar('<');
+while (getchar() == 'a') {
+putchar('b');
+}
+return 3;
+}

@@ -1,0 +1,12 @@
+int main(void) {
+while (getchar() == '(') {
+putchar('[');
+while (getchar() == '.') {
+putchar('-');
+while (getchar() == '!') {
+}
+}
+putchar(']');
+}
+return 0;
+}
