@@ -1,11 +1,14 @@
 //! The program `cov`: the top call over standard input, output and error and the current folder.
 #![tactic(auto)]
 
+ghost use Rattle.std.specs.Prelude.{IfErr};
+ghost use Rattle.cov.specs.Wordless.{IsWordless};
+
 use cov_outside::{DirFolder, StdErr, StdSink, StdSource};
 use cov_program::{End, UsageFault, perform, status_of, tell};
-use std::env;
 use std::io::ErrorKind;
 use std::process::ExitCode;
+use std::{env, io};
 
 fn main(rt: HostRuntime) -> ExitCode {
     let mut err = StdErr::new(rt.stderr());
@@ -31,11 +34,22 @@ fn main(rt: HostRuntime) -> ExitCode {
     ExitCode::from(status_of(&end))
 }
 
-/// The words after the program's name; words that aren't text are no command.
-fn words(rt: &HostRuntime) -> Result<Vec<String>, End> {
+/// The words after the program's name.
+fn words(rt: &HostRuntime) -> Result<Vec<String>, End>
+    ensures { IfErr result IsWordless }
+{
     match env::args(rt) {
         Ok(args) => Ok(args.skip(1).collect(rt.alloc())?),
-        Err(error) if error.kind() == ErrorKind::OutOfMemory => Err(End::NoMemory),
-        Err(_) => Err(End::Usage(UsageFault::NotBuilt)),
+        Err(error) => Err(wordless(&error)),
+    }
+}
+
+/// The answer where there are no words: they aren't text, or memory ran out.
+fn wordless(error: &io::Error) -> End
+    ensures { IsWordless result }
+{
+    match error.kind() {
+        ErrorKind::OutOfMemory => End::NoMemory,
+        _ => End::Usage(UsageFault::NotBuilt),
     }
 }
