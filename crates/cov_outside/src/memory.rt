@@ -1,5 +1,16 @@
 // The outside in memory, with calls that fail by their number.
-ghost use Rattle.std.specs.Prelude.{◌≡◌, ◌≤◌, [], length, option_copied, Some, IfOk, IfSome, IsErr, IsErrOf};
+ghost use Rattle.std.specs.Prelude.{
+  ◌≡◌,
+  ◌≤◌,
+  [],
+  length,
+  option_copied,
+  Some,
+  IfOk,
+  IfSome,
+  IsErr,
+  IsErrOf,
+};
 ghost use Rattle.cov_outside.specs.Outside.{HasCause, Reads, Writes, Loads, Replaces};
 ghost use Rattle.cov_outside.specs.Stores.{Numbered, new_log};
 
@@ -93,7 +104,8 @@ impl Sink for MemSink {
     fn write(&mut self, piece: &[u8]) -> Result<usize, SinkFault>
         ensures whole { IfOk result (λ n. n ≡ length piece.now) }
         ensures writes { Writes (Some (sink_written self.old)) (Some (sink_written self.new)) result piece.now }
-        ensures cause { HasCause (sink_log self.old).faults (sink_log self.new).faults (IsErrOf result SinkFault.Failed) }
+        ensures cause { HasCause (sink_log self.old).faults (sink_log self.new).faults
+            (IsErrOf result SinkFault.Failed) }
         ensures numbered { Numbered (sink_log self.old) (sink_log self.new) (IsErrOf result SinkFault.Failed) }
     {
         if self.calls.fails() {
@@ -143,7 +155,8 @@ impl Folder for MemFolder {
         ensures limit { IfOk result (λ found. IfSome found (λ bytes. length bytes.items ≤ limit)) }
         ensures loads { Loads (Some (folder_files self.old)) name.now limit result }
         ensures kept { folder_files self.new ≡ folder_files self.old }
-        ensures cause { HasCause (folder_log self.old).faults (folder_log self.new).faults (IsErrOf result LoadFault.Failed) }
+        ensures cause { HasCause (folder_log self.old).faults (folder_log self.new).faults
+            (IsErrOf result LoadFault.Failed) }
         ensures numbered { Numbered (folder_log self.old) (folder_log self.new) (IsErrOf result LoadFault.Failed) }
     {
         if self.calls.fails() {
@@ -153,8 +166,10 @@ impl Folder for MemFolder {
     }
 
     fn replace(&mut self, name: &str, bytes: &[u8]) -> Result<(), SinkFault>
-        ensures replaces { Replaces (Some (folder_files self.old)) (Some (folder_files self.new)) name.now bytes.now result }
-        ensures cause { HasCause (folder_log self.old).faults (folder_log self.new).faults (IsErrOf result SinkFault.Failed) }
+        ensures replaces { Replaces (Some (folder_files self.old)) (Some (folder_files self.new))
+            name.now bytes.now result }
+        ensures cause { HasCause (folder_log self.old).faults (folder_log self.new).faults
+            (IsErrOf result SinkFault.Failed) }
         ensures numbered { Numbered (folder_log self.old) (folder_log self.new) (IsErrOf result SinkFault.Failed) }
     {
         if self.calls.fails() {

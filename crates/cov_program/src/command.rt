@@ -88,9 +88,11 @@ pub fn perform<S: Source, K: Sink, E: Sink, F: Folder>(
     ensures unwritten { IsUnwritten result → out.new ≡ out.old }
     ensures silent { result ≡ End.Done → err.new ≡ err.old }
     ensures write_fault { HasCause (K.faults out.old) (K.faults out.new) (result ≡ End.WriteFault) }
-    ensures folder_fault { HasCause (F.faults folder.old) (F.faults folder.new) (result ≡ End.FolderFault) }
+    ensures folder_fault { HasCause (F.faults folder.old) (F.faults folder.new)
+        (result ≡ End.FolderFault) }
     ensures err_faults { HasCause (E.faults err.old) (E.faults err.new) ⊥ }
-    ensures err { IfSome (E.written err.old) (λ before. IsFront (line_of result) before (E.written err.new)) }
+    ensures err { IfSome (E.written err.old)
+        (λ before. IsFront (line_of result) before (E.written err.new)) }
 {
     let _ = input;
     let end = answer(alloc, words, out, folder);
@@ -110,7 +112,8 @@ fn answer<K: Sink, F: Folder>(alloc: Global, words: &[String], out: &mut K, fold
     ensures files { F.files folder.new ≡ F.files folder.old }
     ensures unwritten { IsUnwritten result → out.new ≡ out.old }
     ensures write_fault { HasCause (K.faults out.old) (K.faults out.new) (result ≡ End.WriteFault) }
-    ensures folder_fault { HasCause (F.faults folder.old) (F.faults folder.new) (result ≡ End.FolderFault) }
+    ensures folder_fault { HasCause (F.faults folder.old) (F.faults folder.new)
+        (result ≡ End.FolderFault) }
 {
     match cover_words(words) {
         None => End::Usage(UsageFault::NotBuilt),
@@ -135,7 +138,8 @@ fn cover<K: Sink, F: Folder>(
     ensures files { F.files folder.new ≡ F.files folder.old }
     ensures unwritten { IsUnwritten result → out.new ≡ out.old }
     ensures write_fault { HasCause (K.faults out.old) (K.faults out.new) (result ≡ End.WriteFault) }
-    ensures folder_fault { HasCause (F.faults folder.old) (F.faults folder.new) (result ≡ End.FolderFault) }
+    ensures folder_fault { HasCause (F.faults folder.old) (F.faults folder.new)
+        (result ≡ End.FolderFault) }
 {
     match text_for(alloc, names, folder) {
         Ok(text) => write_text(out, &text),

@@ -21,7 +21,8 @@ pub fn tell<E: Sink>(end: &End, err: &mut E) -> Result<(), SinkFault>
 
 /// Writes the words, the name and a newline.
 fn write_line<E: Sink>(err: &mut E, words: &[u8], name: &[u8]) -> Result<(), SinkFault>
-    ensures line { WritesAll (E.written err.old) (E.written err.new) result (words.now ++ (name.now ++ 10 ∷ [])) }
+    ensures line { WritesAll (E.written err.old) (E.written err.new) result (words.now ++ (name.now
+        ++ 10 ∷ [])) }
     ensures cause { HasCause (E.faults err.old) (E.faults err.new) (IsErrOf result SinkFault.Failed) }
 {
     write_all(err, words)?;

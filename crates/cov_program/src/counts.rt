@@ -1,9 +1,33 @@
 //! Counts of source lines.
-ghost use Rattle.std.specs.Prelude.{◌≡◌, ℕ, ◌+◌, ◌^◌, ◌<◌, [], length, replicate, slice_set, IfOk, Some, None, true, if◌then◌else◌};
+ghost use Rattle.std.specs.Prelude.{
+  ◌≡◌,
+  ℕ,
+  ◌+◌,
+  ◌^◌,
+  ◌<◌,
+  [],
+  length,
+  replicate,
+  slice_set,
+  IfOk,
+  Some,
+  None,
+  true,
+  if◌then◌else◌,
+};
 ghost use Rattle.std.specs.List.{All};
 ghost use Rattle.cov_base.specs.Net.{IsNet, ascends};
 ghost use Rattle.cov_program.specs.Counts.{count_at, counted};
-ghost use Rattle.cov_program.specs.CountSteps.{holds, count_or_zero, begun, all_begun, added_at, added, arc_added, all_added};
+ghost use Rattle.cov_program.specs.CountSteps.{
+  holds,
+  count_or_zero,
+  begun,
+  all_begun,
+  added_at,
+  added,
+  arc_added,
+  all_added,
+};
 
 use cov_base::{FlowArc, Net};
 use std::alloc::{AllocError, Global};
@@ -40,7 +64,8 @@ fn code_lines(alloc: Global, net: &Net, size: usize) -> Result<Vec<Option<u64>>,
 /// Adds to the count of a line, where there is room for it and the line isn't among others.
 fn add(counter: u64, others: &[u32], line: u32, counts: &mut [Option<u64>])
     requires { line < length counts.old → count_or_zero counts.old line + counter < 2 ^ 64 }
-    ensures { counts.new ≡ (if holds others.now line then counts.old else added_at line counter counts.old) }
+    ensures { counts.new
+        ≡ (if holds others.now line then counts.old else added_at line counter counts.old) }
 {
     let at = line as usize;
     if at < counts.len() && !others.contains(&line) {
@@ -51,7 +76,8 @@ fn add(counter: u64, others: &[u32], line: u32, counts: &mut [Option<u64>])
 /// Adds to the counts of these lines, but for those that are among others.
 fn add_to_lines(counter: u64, others: &[u32], lines: &[u32], counts: &mut [Option<u64>])
     requires ascend { ascends 0 lines.now ≡ true }
-    requires fits { (line : ℕ) → line < length counts.old → count_or_zero counts.old line + counter < 2 ^ 64 }
+    requires fits { (line : ℕ) → line < length counts.old
+        → count_or_zero counts.old line + counter < 2 ^ 64 }
     ensures { counts.new ≡ added counter others.now lines.now counts.old }
 {
     for line in lines {
@@ -63,7 +89,8 @@ fn add_to_lines(counter: u64, others: &[u32], lines: &[u32], counts: &mut [Optio
 fn add_arc(net: &Net, arc: &FlowArc, counter: u64, counts: &mut [Option<u64>])
     requires from { arc.now.from < net.now.blocks }
     requires to { arc.now.to < net.now.blocks }
-    requires fits { (line : ℕ) → line < length counts.old → count_or_zero counts.old line + counter < 2 ^ 64 }
+    requires fits { (line : ℕ) → line < length counts.old
+        → count_or_zero counts.old line + counter < 2 ^ 64 }
     ensures { counts.new ≡ arc_added net.now arc.now counter counts.old }
 {
     add_to_lines(counter, net.lines(arc.from), net.lines(arc.to), counts);
@@ -92,7 +119,8 @@ pub fn line_counts(
 ) -> Result<Vec<Option<u64>>, AllocError>
     requires fits { length counters.now ≡ length net.now.arcs }
     requires below { All (λ n. n < 2 ^ 50) counters.now }
-    ensures { IfOk result (λ counts. (length counts.items ≡ size) × ((line : ℕ) → line < size → count_at counts.items line ≡ counted net.now counters.now line)) }
+    ensures { IfOk result (λ counts. (length counts.items ≡ size) × ((line : ℕ) → line < size
+        → count_at counts.items line ≡ counted net.now counters.now line)) }
 {
     let mut counts = code_lines(alloc, net, size)?;
     add_arcs(net, counters, &mut counts);

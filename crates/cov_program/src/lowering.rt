@@ -44,7 +44,8 @@ fn lower_items(alloc: Global, items: &[Item], plan: &mut Plan) -> Result<(), All
 fn lower_item(alloc: Global, item: &Item, plan: &mut Plan) -> Result<(), AllocError>
     requires loops { length plan.old.done + 3 * loops_of (item_before item.now Empty) ≤ 300 }
     requires lines { plan.old.line + lines_of (item_before item.now Empty) < 2 ^ 31 }
-    ensures { OnOk result ((more : Body) → lowered more plan.new ≡ lowered (item_before item.now more) plan.old) }
+    ensures { OnOk result ((more : Body) → lowered more plan.new
+        ≡ lowered (item_before item.now more) plan.old) }
 {
     match item {
         Item::Put(byte) => plan.put(*byte),

@@ -49,7 +49,8 @@ fn push_arc(arcs: &mut Vec<FlowArc>, from: u32, to: u32) -> Result<(), AllocErro
 
 /// The source lines of each block of a graph's net.
 pub fn lines_of_blocks(alloc: Global, blocks: &[Block]) -> Result<Vec<Vec<u32>>, AllocError>
-    ensures { IfOk result (λ lines. map (λ v. v.items) lines.items ≡ (net_of (graph_seen blocks.now)).lines) }
+    ensures { IfOk result (λ lines. map (λ v. v.items) lines.items
+        ≡ (net_of (graph_seen blocks.now)).lines) }
 {
     let mut lines = Vec::new(alloc);
     lines.push(Vec::new(alloc))?;

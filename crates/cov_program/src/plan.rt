@@ -2,7 +2,15 @@
 
 ghost use Rattle.std.specs.Prelude.{◌≡◌, [], ◌+◌, ◌*◌, ◌<◌, ◌≤◌, ◌^◌, length, OnOk, IfOk};
 ghost use Rattle.cov_program.specs.GraphView.{exit_ops, exit_of, graph_seen};
-ghost use Rattle.cov_program.specs.Plan.{closed, onto_line, past_line, put_line, enter, leave, next_of};
+ghost use Rattle.cov_program.specs.Plan.{
+  closed,
+  onto_line,
+  past_line,
+  put_line,
+  enter,
+  leave,
+  next_of,
+};
 
 use crate::graph::{Block, Exit, Put};
 use std::alloc::{AllocError, Global};

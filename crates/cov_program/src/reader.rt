@@ -1,5 +1,21 @@
 //! Reads sources of the first form.
-ghost use Rattle.std.specs.Prelude.{◌≡◌, ◌≢◌, ℕ, ◌+◌, ◌≤◌, ◌++◌, ◌∷◌, ◌↔◌, List, IfOk, IfSome, IfNone, MatchOption, MatchBool, IsTrue};
+ghost use Rattle.std.specs.Prelude.{
+  ◌≡◌,
+  ◌≢◌,
+  ℕ,
+  ◌+◌,
+  ◌≤◌,
+  ◌++◌,
+  ◌∷◌,
+  ◌↔◌,
+  List,
+  IfOk,
+  IfSome,
+  IfNone,
+  MatchOption,
+  MatchBool,
+  IsTrue,
+};
 ghost use Rattle.cov_program.specs.FirstForm.{IsChar, IsFirstForm, Form as FormValue};
 ghost use Rattle.cov_program.specs.FormView.{body_of, form_of};
 ghost use Rattle.cov_program.specs.Reading.{Reads, ReadsNone, ReadsBlock, ReadsNoBlock};
@@ -77,7 +93,8 @@ impl<'a> Reader<'a> {
 
     /// Takes these bytes off the front, if the text begins with them.
     fn eat(&mut self, front: &[u8]) -> bool
-        ensures cases { MatchBool result (self.old.text ≡ front.now ++ self.new.text) (((rest : List ℕ) → self.old.text ≢ front.now ++ rest) × (self.new ≡ self.old)) }
+        ensures cases { MatchBool result (self.old.text ≡ front.now ++ self.new.text)
+            (((rest : List ℕ) → self.old.text ≢ front.now ++ rest) × (self.new ≡ self.old)) }
         ensures loops { self.new.loops ≡ self.old.loops }
         ensures limit { self.new.loops ≤ 100 }
     {
@@ -92,7 +109,8 @@ impl<'a> Reader<'a> {
 
     /// Takes a character off the front, if one stands there.
     fn take_char(&mut self) -> Option<u8>
-        ensures cases { MatchOption result ((c : ℕ) (rest : List ℕ) → IsChar c → self.old.text ≢ c ∷ rest) (λ c. IsChar c × (self.old.text ≡ c ∷ self.new.text)) }
+        ensures cases { MatchOption result ((c : ℕ) (rest : List ℕ) → IsChar c
+            → self.old.text ≢ c ∷ rest) (λ c. IsChar c × (self.old.text ≡ c ∷ self.new.text)) }
         ensures loops { self.new.loops ≡ self.old.loops }
     {
         match self.text.split_first() {
@@ -123,7 +141,8 @@ impl<'a> Reader<'a> {
 
     /// Counts a loop, unless there are 100 already.
     fn count_loop(&mut self) -> bool
-        ensures { MatchBool result ((self.new ≡ record self.old { loops = self.old.loops + 1 }) × (self.new.loops ≤ 100)) (self.old.loops ≡ 100) }
+        ensures { MatchBool result ((self.new ≡ record self.old { loops = self.old.loops + 1 })
+            × (self.new.loops ≤ 100)) (self.old.loops ≡ 100) }
     {
         if self.loops == MOST_LOOPS {
             return false;
@@ -136,7 +155,8 @@ impl<'a> Reader<'a> {
 /// Reads the items of a body, up to where no item begins. None where no source of the first form goes on so.
 #[cycle(read)]
 fn read_items(alloc: Global, reader: &mut Reader<'_>) -> Result<Option<Items<Item>>, AllocError>
-    ensures some { IfOk result (λ found. IfSome found (λ items. Reads reader.old (body_of items) reader.new)) }
+    ensures some { IfOk result (λ found. IfSome found
+        (λ items. Reads reader.old (body_of items) reader.new)) }
     ensures none { IfOk result (λ found. IfNone found (ReadsNone reader.old)) }
 {
     let mut items = Items::new(alloc);
@@ -172,7 +192,8 @@ fn read_item(alloc: Global, reader: &mut Reader<'_>) -> Result<Next, AllocError>
 /// Reads the inside of a loop and its last line. None where no source of the first form goes on so, or this is loop 101.
 #[cycle(read)]
 fn read_block(alloc: Global, reader: &mut Reader<'_>) -> Result<Option<Items<Item>>, AllocError>
-    ensures some { IfOk result (λ found. IfSome found (λ items. ReadsBlock reader.old (body_of items) reader.new)) }
+    ensures some { IfOk result (λ found. IfSome found
+        (λ items. ReadsBlock reader.old (body_of items) reader.new)) }
     ensures none { IfOk result (λ found. IfNone found (ReadsNoBlock reader.old)) }
 {
     if !reader.count_loop() {
@@ -189,9 +210,12 @@ fn read_block(alloc: Global, reader: &mut Reader<'_>) -> Result<Option<Items<Ite
 
 /// The source's form, or None where it isn't of the first form. An `Err` says that memory ran out.
 pub fn read_form(alloc: Global, source: &[u8]) -> Result<Option<Form>, AllocError>
-    ensures some { IfOk result (λ found. IfSome found (λ form. IsFirstForm source.now (form_of form))) }
-    ensures one { IfOk result (λ found. IfSome found (λ form. (g : FormValue) → IsFirstForm source.now g → g ≡ form_of form)) }
-    ensures none { IfOk result (λ found. IfNone found ((form : FormValue) → IsFirstForm source.now form → ⊥)) }
+    ensures some { IfOk result (λ found. IfSome found
+        (λ form. IsFirstForm source.now (form_of form))) }
+    ensures one { IfOk result (λ found. IfSome found (λ form. (g : FormValue)
+        → IsFirstForm source.now g → g ≡ form_of form)) }
+    ensures none { IfOk result (λ found. IfNone found ((form : FormValue)
+        → IsFirstForm source.now form → ⊥)) }
 {
     let mut reader = Reader::new(source);
     if !reader.eat(b"int main(void) {\n") {

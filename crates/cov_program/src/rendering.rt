@@ -8,7 +8,15 @@ ghost use Rattle.cov_program.specs.GraphView.{graph_seen};
 ghost use Rattle.cov_program.specs.Nets.{net_of, firsts_from};
 ghost use Rattle.cov_program.specs.Walked.{Walked};
 ghost use Rattle.cov_program.specs.EndingView.{ending_of};
-ghost use Rattle.cov_program.specs.CoverText.{default_turns, stem, head_text, annotated_lines, lines_in, IsCoverText, is_closed};
+ghost use Rattle.cov_program.specs.CoverText.{
+  default_turns,
+  stem,
+  head_text,
+  annotated_lines,
+  lines_in,
+  IsCoverText,
+  is_closed,
+};
 ghost use Rattle.cov_program.specs.Counts.{counted};
 ghost use Rattle.cov_program.specs.Steps.{settled, runs_of};
 
@@ -37,7 +45,9 @@ pub fn cover_text(
     requires stem { names.stem.now ≡ stem names.source.now }
     requires fits { length source.now ≤ 1048576 }
     requires formed { IsFirstForm source.now (form_of form.now) }
-    ensures { IfOk result (λ text. IsCoverText names.entry.source.now source.now names.entry.input.now input.now (form_of form.now) text.items) }
+    ensures { IfOk result
+        (λ text. IsCoverText names.entry.source.now source.now names.entry.input.now input.now
+        (form_of form.now) text.items) }
 {
     let unit = compile(alloc, form)?;
     let mut run = run_of(alloc, form, &unit, input)?;
@@ -55,7 +65,9 @@ fn run_of(alloc: Global, form: &Form, unit: &Unit, input: &[u8]) -> Result<Run, 
     requires graph { graph_seen unit.now.blocks.items ≡ graph_of (form_of form.now) }
     requires firsts { unit.now.firsts.items ≡ firsts_from 1 (graph_of (form_of form.now)) }
     requires net { unit.now.net ≡ net_of (graph_of (form_of form.now)) }
-    ensures walked { IfOk result (λ run. Walked (graph_of (form_of form.now)) input.now default_turns run.output.items (ending_of run.ending) run.counters.items) }
+    ensures walked { IfOk result
+        (λ run. Walked (graph_of (form_of form.now)) input.now default_turns run.output.items
+        (ending_of run.ending) run.counters.items) }
     ensures below { IfOk result (λ run. All (λ n. n < 2 ^ 50) run.counters.items) }
 {
     let arcs = unit.net.arcs().len();
@@ -103,7 +115,8 @@ fn push_counted(
     requires source { length source.now ≤ 1048576 }
     requires fits { length counters.now ≡ length net.now.arcs }
     requires below { All (λ n. n < 2 ^ 50) counters.now }
-    ensures { OnOk result (out.new.items ≡ out.old.items ++ annotated_lines (counted net.now counters.now) 1 (lines_in source.now)) }
+    ensures { OnOk result (out.new.items ≡ out.old.items
+        ++ annotated_lines (counted net.now counters.now) 1 (lines_in source.now)) }
 {
     let counts = line_counts(alloc, net, counters, count_lines(source) + 1)?;
     push_lines(alloc, out, source, &counts)

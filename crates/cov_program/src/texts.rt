@@ -2,7 +2,16 @@
 
 ghost use Rattle.std.specs.Prelude.{◌≡◌, ◌≤◌, ◌++◌, length, codes, IfOk, OnOk};
 ghost use Rattle.std.specs.String.{string_bytes};
-ghost use Rattle.cov_program.specs.CoverText.{ending_text, run_text, annotated, count_text, head_text, annotated_lines, lines_in, shown};
+ghost use Rattle.cov_program.specs.CoverText.{
+  ending_text,
+  run_text,
+  annotated,
+  count_text,
+  head_text,
+  annotated_lines,
+  lines_in,
+  shown,
+};
 ghost use Rattle.cov_program.specs.Counts.{count_at};
 ghost use Rattle.cov_program.specs.EndingView.{ending_of};
 
@@ -43,7 +52,8 @@ pub fn push_run(
     ending: Ending,
     output: &[u8],
 ) -> Result<(), AllocError>
-    ensures { OnOk result (out.new.items ≡ out.old.items ++ run_text name.now (record { output = output.now; ending = ending_of ending })) }
+    ensures { OnOk result (out.new.items ≡ out.old.items
+        ++ run_text name.now (record { output = output.now; ending = ending_of ending })) }
 {
     let words = ending_words(alloc, ending)?;
     let count = output.len();
@@ -119,7 +129,8 @@ pub fn push_lines(
     counts: &[Option<u64>],
 ) -> Result<(), AllocError>
     requires { length source.now ≤ 1048576 }
-    ensures { OnOk result (out.new.items ≡ out.old.items ++ annotated_lines (count_at counts.now) 1 (lines_in source.now)) }
+    ensures { OnOk result (out.new.items ≡ out.old.items
+        ++ annotated_lines (count_at counts.now) 1 (lines_in source.now)) }
 {
     let mut rest = source;
     let mut number = 1;

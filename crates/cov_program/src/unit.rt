@@ -25,8 +25,10 @@ pub struct Unit {
 pub fn compile(alloc: Global, form: &Form) -> Result<Unit, AllocError>
     requires loops { loops_of (body_of form.now.body) ≤ 100 }
     requires lines { lines_of (body_of form.now.body) ≤ 1048576 }
-    ensures graph { IfOk result (λ unit. graph_seen unit.blocks.items ≡ graph_of (form_of form.now)) }
-    ensures firsts { IfOk result (λ unit. unit.firsts.items ≡ firsts_from 1 (graph_of (form_of form.now))) }
+    ensures graph { IfOk result (λ unit. graph_seen unit.blocks.items
+        ≡ graph_of (form_of form.now)) }
+    ensures firsts { IfOk result (λ unit. unit.firsts.items
+        ≡ firsts_from 1 (graph_of (form_of form.now))) }
     ensures net { IfOk result (λ unit. unit.net ≡ net_of (graph_of (form_of form.now))) }
 {
     let blocks = lower(alloc, form)?;

@@ -1,5 +1,21 @@
 //! Runs a graph block by block on an input, and counts each arc as it goes.
-ghost use Rattle.std.specs.Prelude.{◌≡◌, ℕ, ◌+◌, ◌-◌, ◌*◌, ◌^◌, ◌<◌, ◌≤◌, ◌∷◌, [], length, slice_index, slice_set, replicate, IfOk};
+ghost use Rattle.std.specs.Prelude.{
+  ◌≡◌,
+  ℕ,
+  ◌+◌,
+  ◌-◌,
+  ◌*◌,
+  ◌^◌,
+  ◌<◌,
+  ◌≤◌,
+  ◌∷◌,
+  [],
+  length,
+  slice_index,
+  slice_set,
+  replicate,
+  IfOk,
+};
 ghost use Rattle.std.specs.List.{All};
 ghost use Rattle.cov_program.specs.Graph.{Return};
 ghost use Rattle.cov_program.specs.GraphView.{graph_seen, exit_of};
@@ -8,7 +24,18 @@ ghost use Rattle.cov_program.specs.Nets.{net_of, firsts_from, arcs_by};
 ghost use Rattle.cov_program.specs.CoverText.{output_limit};
 ghost use Rattle.cov_program.specs.Exits.{AreExits};
 ghost use Rattle.cov_program.specs.Walked.{Walked};
-ghost use Rattle.cov_program.specs.Advance.{Position, Putted, advance, advanced, counted_at, goes_back, leaves_by, passed, put_each, tested};
+ghost use Rattle.cov_program.specs.Advance.{
+  Position,
+  Putted,
+  advance,
+  advanced,
+  counted_at,
+  goes_back,
+  leaves_by,
+  passed,
+  put_each,
+  tested,
+};
 
 use crate::ending::Ending;
 use crate::graph::{Block, Exit, Put};
@@ -54,7 +81,15 @@ impl<'a> Position<'a> {
         arcs: usize,
     ) -> Result<Position<'a>, AllocError>
         requires { 0 < arcs }
-        ensures { IfOk result (λ p. p ≡ record { block = 2; input = input.now; turns = turns; output = []; counters = slice_set (replicate arcs 0) 0 1 }) }
+        ensures { IfOk result (λ p. p
+            ≡ record {
+              block = 2;
+              input = input.now;
+              turns = turns;
+              output = [];
+              counters =
+                  slice_set (replicate arcs 0) 0 1;
+            }) }
     {
         let mut counters = vec![in alloc; 0; arcs]?;
         counters[0] = 1;
@@ -150,7 +185,8 @@ impl<'a> Position<'a> {
     fn step(&mut self, block: &Block, arc: usize) -> Result<Option<Ending>, AllocError>
         requires within { arc + length (arcs_by 0 (exit_of block.now.exit)) ≤ length self.old.counters }
         requires room { All (λ n. n < 2 ^ 50) self.old.counters }
-        ensures { IfOk result (λ ending. advanced block.now arc self.old ≡ advance ending self.new) }
+        ensures { IfOk result (λ ending. advanced block.now arc self.old
+            ≡ advance ending self.new) }
     {
         match put_all(&block.puts, &mut self.output) {
             Ok(None) => Ok(self.leave(block.exit, arc)),
@@ -162,7 +198,8 @@ impl<'a> Position<'a> {
 
 /// Puts bytes one after another; the line of the first that finds the output full.
 fn put_all(puts: &[Put], output: &mut Vec<u8>) -> Result<Option<u32>, AllocError>
-    ensures { IfOk result (λ full. put_each output_limit puts.now output.old.items ≡ record { output = output.new.items; full = full }) }
+    ensures { IfOk result (λ full. put_each output_limit puts.now output.old.items
+        ≡ record { output = output.new.items; full = full }) }
 {
     for put in puts {
         if output.len() >= OUTPUT_LIMIT {
@@ -188,7 +225,9 @@ pub fn walk(
     requires firsts { firsts.now ≡ firsts_from 1 (graph_seen blocks.now) }
     requires arcs { arcs ≡ length (net_of (graph_seen blocks.now)).arcs }
     requires turns { turns ≤ 1099511627776 }
-    ensures walked { IfOk result (λ run. Walked (graph_seen blocks.now) input.now turns run.output.items (ending_of run.ending) run.counters.items) }
+    ensures walked { IfOk result
+        (λ run. Walked (graph_seen blocks.now) input.now turns run.output.items (ending_of
+        run.ending) run.counters.items) }
     ensures below { IfOk result (λ run. All (λ n. n < 2 ^ 50) run.counters.items) }
 {
     let mut position = Position::start(alloc, input, turns, arcs)?;
