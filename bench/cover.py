@@ -3,7 +3,7 @@
 
 Usage: bench/cover.py [PROGRAM]   (default: crates/cov/out/cov, which ./cov builds)
 
-Each row is the best of nine runs. A growth is how many times the processor time or the peak memory grew from the row above,
+Each row is the best of thirty runs. A growth is how many times the processor time or the peak memory grew from the row above,
 to be held against how many times the size grew. The last line says whether the bounds hold: time and memory grow at most 1.1 times as
 much as the size, 16 MiB of input take below 2 seconds and 1 GiB, an empty program starts and ends within 30 ms.
 """
@@ -14,7 +14,7 @@ import tempfile
 
 TOP = os.path.dirname(os.path.dirname(os.path.abspath(__file__)))
 MIB = 1 << 20
-RUNS = 9
+RUNS = 30
 SLACK = 1.1
 
 
@@ -48,16 +48,19 @@ int main(int argc, char **argv) {
 """
 
 
-def best(meter, program, words, folder):
-    """The least processor seconds, wall seconds and peak bytes of some runs."""
-    runs = []
-    for _ in range(RUNS):
-        done = subprocess.run([meter, program, *words], cwd=folder, stdin=subprocess.DEVNULL, capture_output=True, text=True)
-        if done.returncode != 0:
-            sys.exit(f"cover ended with {done.returncode}")
-        runs.append([int(number) for number in done.stdout.split()])
-    cpu, wall, peak = (min(column) for column in zip(*runs))
+def run(meter, program, words, folder):
+    """The processor seconds, wall seconds and peak bytes of one run."""
+    done = subprocess.run([meter, program, *words], cwd=folder, stdin=subprocess.DEVNULL, capture_output=True, text=True)
+    if done.returncode != 0:
+        sys.exit(f"cover ended with {done.returncode}")
+    cpu, wall, peak = (int(number) for number in done.stdout.split())
     return cpu / 1e6, wall / 1e6, peak * 1024
+
+
+def best(meter, program, commands, folder):
+    """For each command the least of some runs; the commands take turns, so that a slow moment of the machine meets all."""
+    runs = [[run(meter, program, words, folder) for words in commands] for _ in range(RUNS)]
+    return [[min(column) for column in zip(*(round[i] for round in runs))] for i in range(len(commands))]
 
 
 def write(folder, name, content):
@@ -70,8 +73,8 @@ def table(meter, program, folder, title, rows):
     print(title)
     print(f"{'':>12} {'cpu s':>9} {'wall s':>9} {'MiB':>8} {'size x':>7} {'time x':>7} {'memory x':>9}")
     measured, proportional = [], True
-    for label, size, words in rows:
-        seconds, wall, peak = best(meter, program, words, folder)
+    figures = best(meter, program, [words for _, _, words in rows], folder)
+    for (label, size, _), (seconds, wall, peak) in zip(rows, figures):
         growth = ""
         if measured:
             _, size_before, seconds_before, _, peak_before = measured[-1]
@@ -111,7 +114,7 @@ def main():
         rows = [(f"{size} B", size, ["cover", f"{size}.c", "empty.txt"]) for size in lines]
         _, proportional = table(meter, program, folder, "Source of putchar lines:", rows)
         ok = ok and proportional
-        _, wall, _ = best(meter, program, ["cover", "empty.c", "empty.txt"], folder)
+        (_, wall, _), = best(meter, program, [["cover", "empty.c", "empty.txt"]], folder)
         print(f"An empty program: {1000 * wall:.1f} ms")
         ok = ok and wall < 0.03
     print("bounds hold" if ok else "bounds don't hold")
