@@ -1,6 +1,7 @@
 //! Reports whose counts were worked out by hand.
 
 use super::{COVER, WORKED, WORKED_TEXT, assert_done, cover, named, words_in};
+use crate::perform_surely;
 use cov_outside::{MemFolder, MemSink, MemSource, Source, SureFolder, SureSink, SureSource};
 use cov_program::{End, perform, status_of};
 use std::str;
@@ -38,7 +39,7 @@ fn sure_objects_serve_too(rt: HostRuntime) -> Result<(), Fail> {
     let mut out = SureSink::new(alloc);
     let mut err = SureSink::new(alloc);
     let words = words_in(alloc, COVER)?;
-    let end = perform(alloc, &words, &mut input, &mut out, &mut err, &mut folder);
+    let end = perform_surely(alloc, &words, &mut input, &mut out, &mut err, &mut folder);
     assert_eq!(rt; str::from_utf8(out.bytes())?, WORKED_TEXT);
     assert!(rt; matches!(end, End::Done));
     assert_eq!(rt; str::from_utf8(err.bytes())?, "");

@@ -1,0 +1,12 @@
+-- Over objects without faults no count of faults rises.
+use Rattle.std.proofs.Common.{arith, inl, inr}
+use Rattle.cov_outside.specs.Outside.{Rose}
+use Rattle.cov_rows.proofs.sure.perform_surely.Goals as goal
+
+-- a count that stays 0 hasn't risen
+never_risen : Rose 0 0 → ⊥
+never_risen (inl less) = omega arith
+never_risen (inr full) = omega arith
+
+pub returns-clause-complete : goal.returns-clause-complete
+returns-clause-complete c source name words ready = c.perform.ensures.complete source name words ready never_risen never_risen
