@@ -24,6 +24,10 @@ sink_written m = m.kept
 abbrev pub sink_log : MemSink → CallLog
 sink_log m = m.calls
 
+-- how often memory was wanting
+abbrev pub sink_wants : MemSink → ℕ
+sink_wants m = m.wants
+
 -- the files by name
 abbrev pub folder_files : MemFolder → List ℕ → Option (List ℕ)
 folder_files m = last_file m.named
@@ -39,6 +43,10 @@ sure_left s = s.left
 -- the bytes written
 abbrev pub sure_written : SureSink → List ℕ
 sure_written s = s.kept
+
+-- how often memory was wanting
+abbrev pub sure_wants : SureSink → ℕ
+sure_wants s = s.wants
 
 -- the files by name
 abbrev pub sure_files : SureFolder → List ℕ → Option (List ℕ)

@@ -1,4 +1,5 @@
--- What an answer of the outside says: the bytes and files where they are told, and the count of faults.
+-- What an answer of the outside says: the bytes and files where they are told, and the counts of faults
+-- and of wants of memory.
 use Rattle.std.specs.Prelude.{◌≡◌, ◌⊎◌, ◌↔◌, ◌<◌, ◌≤◌, ◌-◌, ◌^◌, ℕ, List, [], ◌++◌, length, take, drop, Option, Some, None, Result, Ok, Err, Vec, bytes_eq, if◌then◌else◌}
 use Rattle.std.specs.Global.{Global}
 use Rattle.cov_outside.specs.declared.faults.Failed.{Failed}
@@ -6,7 +7,7 @@ use Rattle.cov_outside.specs.declared.faults.SinkFault.{SinkFault}
 use Rattle.cov_outside.specs.declared.faults.LoadFault.{LoadFault}
 use Rattle.cov_outside.specs.declared.faults.LoadFault.TheVariants as load_fault
 
--- the count of faults rose, or stands at the greatest number that it can hold
+-- a count rose, or stands at the greatest number that it can hold
 abbrev pub Rose : ℕ → ℕ → Type 0
 Rose before now = (before < now) ⊎ (now ≡ 2 ^ 64 - 1)
 

@@ -1,8 +1,10 @@
 -- What the objects in memory hold, as plain values.
-use Rattle.std.specs.Prelude.{map, String, Vec, string_bytes, ◌≡◌, ◌+◌, ◌-◌, ◌^◌, ℕ, Bool, true, min, List, [], ◌∷◌, Option, Some, None, bytes_eq, if◌then◌else◌, ◌==◌}
+use Rattle.std.specs.Prelude.{Result, Err, map, String, Vec, string_bytes, ◌≡◌, ◌+◌, ◌-◌, ◌^◌, ℕ, Bool, true, min, List, [], ◌∷◌, Option, Some, None, bytes_eq, if◌then◌else◌, ◌==◌}
 use Rattle.std.specs.List.{list_any}
 use Rattle.std.specs.Option.{option_or}
 use Rattle.std.specs.Global.{Global}
+use Rattle.cov_outside.specs.declared.faults.SinkFault.{SinkFault}
+use Rattle.cov_outside.specs.declared.faults.SinkFault.TheVariants as fault
 
 -- the numbers of the calls that fail, the number of the next call, and the count of faults
 pub record CallLog : Type 0 where
@@ -36,6 +38,11 @@ pub record Numbered (before after : CallLog) (fault : Type 0) : Type 0 where
   pub counted : after ≡ log_call before
   pub fails : fails_next before ≡ true → fault
   pub only : fault → fails_next before ≡ true
+
+-- the count of wants of memory once this is the answer of a write
+abbrev pub wants_after : Result ℕ SinkFault → ℕ → ℕ
+wants_after (Err fault.NoMemory) count = one_more count
+wants_after answer count = count
 
 -- the bytes of the last file of that name
 abbrev pub last_file : List (List ℕ × List ℕ) → List ℕ → Option (List ℕ)

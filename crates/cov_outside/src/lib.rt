@@ -15,6 +15,7 @@ mod streams;
 mod sure;
 #[cfg(test)]
 mod tests;
+mod wants;
 
 pub use directory::DirFolder;
 pub use faults::{Failed, LoadFault, SinkFault};

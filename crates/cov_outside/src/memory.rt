@@ -12,7 +12,7 @@ ghost use Rattle.std.specs.Prelude.{
   IsErrOf,
 };
 ghost use Rattle.cov_outside.specs.Outside.{HasCause, Reads, Writes, Loads, Replaces};
-ghost use Rattle.cov_outside.specs.Stores.{Numbered, new_log};
+ghost use Rattle.cov_outside.specs.Stores.{Numbered, new_log, wants_after};
 
 use crate::calls::Calls;
 use crate::faults::{Failed, LoadFault, SinkFault};
@@ -22,6 +22,7 @@ use crate::left::Left;
 use crate::named::Named;
 use crate::sink::Sink;
 use crate::source::Source;
+use crate::wants::Wants;
 use std::alloc::Global;
 
 /// Bytes in memory. Each read takes all that fits.
@@ -71,19 +72,22 @@ impl Source for MemSource {
 pub struct MemSink {
     kept: Kept,
     calls: Calls,
+    wants: Wants,
 }
 
 impl MemSink {
-    ghost use Rattle.cov_outside.specs.Memory.{sink_written, sink_log};
+    ghost use Rattle.cov_outside.specs.Memory.{sink_written, sink_log, sink_wants};
 
     /// Nothing written. The calls with these numbers, from 0, fail.
     pub fn new(alloc: Global, fails: Vec<u64>) -> MemSink
         ensures written { sink_written result ≡ [] }
         ensures calls { sink_log result ≡ new_log fails.items }
+        ensures wants { sink_wants result ≡ 0 }
     {
         MemSink {
             kept: Kept::new(alloc),
             calls: Calls::new(fails),
+            wants: Wants::new(),
         }
     }
 
@@ -95,11 +99,13 @@ impl MemSink {
 }
 
 impl Sink for MemSink {
-    ghost use Rattle.cov_outside.specs.Memory.{sink_written, sink_log};
+    ghost use Rattle.cov_outside.specs.Memory.{sink_written, sink_log, sink_wants};
 
     ghost written = { λ m. Some (sink_written m) };
 
     ghost faults = { λ m. (sink_log m).faults };
+
+    ghost wants = { sink_wants };
 
     fn write(&mut self, piece: &[u8]) -> Result<usize, SinkFault>
         ensures whole { IfOk result (λ n. n ≡ length piece.now) }
@@ -107,11 +113,15 @@ impl Sink for MemSink {
         ensures cause { HasCause (sink_log self.old).faults (sink_log self.new).faults
             (IsErrOf result SinkFault.Failed) }
         ensures numbered { Numbered (sink_log self.old) (sink_log self.new) (IsErrOf result SinkFault.Failed) }
+        ensures want { HasCause (sink_wants self.old) (sink_wants self.new) (IsErrOf result SinkFault.NoMemory) }
+        ensures counted { sink_wants self.new ≡ wants_after result (sink_wants self.old) }
     {
         if self.calls.fails() {
             return Err(SinkFault::Failed);
         }
-        self.kept.append(piece)
+        let answer = self.kept.append(piece);
+        self.wants.count(&answer);
+        answer
     }
 }
 

@@ -57,6 +57,8 @@ impl<W: Write> Sink for StdSink<W> {
 
     ghost faults = { λ s. s.faults };
 
+    ghost wants = { λ s. 0 };
+
     /// A writer that takes none of a piece that isn't empty has failed.
     fn write(&mut self, piece: &[u8]) -> Result<usize, SinkFault> {
         match self.writer.write(piece) {
@@ -89,6 +91,8 @@ impl<W: Write> Sink for StdErr<W> {
     ghost written = { λ s. None };
 
     ghost faults = { λ s. s.sink.faults };
+
+    ghost wants = { λ s. 0 };
 
     fn write(&mut self, piece: &[u8]) -> Result<usize, SinkFault> {
         self.sink.write(piece)

@@ -1,5 +1,7 @@
 // The outside in memory, without faults.
-ghost use Rattle.std.specs.Prelude.{◌≡◌, [], option_copied, Some};
+ghost use Rattle.std.specs.Prelude.{◌≡◌, ◌≤◌, ◌<◌, [], length, option_copied, Some, IfOk, IsErrOf};
+ghost use Rattle.cov_outside.specs.Outside.{HasCause, Writes};
+ghost use Rattle.cov_outside.specs.Stores.{wants_after};
 
 use crate::faults::{Failed, LoadFault, SinkFault};
 use crate::folder::Folder;
@@ -8,6 +10,7 @@ use crate::left::Left;
 use crate::named::Named;
 use crate::sink::Sink;
 use crate::source::Source;
+use crate::wants::Wants;
 use std::alloc::Global;
 
 /// Bytes in memory. No read fails.
@@ -44,16 +47,19 @@ impl Source for SureSource {
 #[derive(Drop)]
 pub struct SureSink {
     kept: Kept,
+    wants: Wants,
 }
 
 impl SureSink {
-    ghost use Rattle.cov_outside.specs.Memory.{sure_written};
+    ghost use Rattle.cov_outside.specs.Memory.{sure_written, sure_wants};
 
     pub fn new(alloc: Global) -> SureSink
-        ensures { sure_written result ≡ [] }
+        ensures written { sure_written result ≡ [] }
+        ensures wants { sure_wants result ≡ 0 }
     {
         SureSink {
             kept: Kept::new(alloc),
+            wants: Wants::new(),
         }
     }
 
@@ -65,14 +71,24 @@ impl SureSink {
 }
 
 impl Sink for SureSink {
-    ghost use Rattle.cov_outside.specs.Memory.{sure_written};
+    ghost use Rattle.cov_outside.specs.Memory.{sure_written, sure_wants};
 
     ghost written = { λ s. Some (sure_written s) };
 
     ghost faults = { λ s. 0 };
 
-    fn write(&mut self, piece: &[u8]) -> Result<usize, SinkFault> {
-        self.kept.append(piece)
+    ghost wants = { sure_wants };
+
+    fn write(&mut self, piece: &[u8]) -> Result<usize, SinkFault>
+        ensures whole { IfOk result (λ n. n ≡ length piece.now) }
+        ensures writes { Writes (Some (sure_written self.old)) (Some (sure_written self.new)) result piece.now }
+        ensures cause { HasCause 0 0 (IsErrOf result SinkFault.Failed) }
+        ensures want { HasCause (sure_wants self.old) (sure_wants self.new) (IsErrOf result SinkFault.NoMemory) }
+        ensures counted { sure_wants self.new ≡ wants_after result (sure_wants self.old) }
+    {
+        let answer = self.kept.append(piece);
+        self.wants.count(&answer);
+        answer
     }
 }
 

@@ -5,6 +5,7 @@ use Rattle.std.proofs.lemmas.List.{take-append-le, length-append}
 use Rattle.std.specs.Prelude.{Option, Some, None, Result, Ok, Err, IfSome, [], ◌∷◌}
 use Rattle.cov_outside.specs.Outside.{WritesAll}
 use Rattle.cov_outside.specs.declared.faults.SinkFault.{SinkFault}
+use Rattle.cov_outside.specs.declared.faults.SinkFault.TheVariants as sink_fault
 use Rattle.cov_program.specs.declared.answers.End.{End}
 use Rattle.cov_program.specs.declared.answers.End.TheVariants as answer
 use Rattle.cov_program.specs.Answers.{IsFront, line_of, words_in, name_in}
@@ -41,6 +42,15 @@ front_of None after result text h = tt
 front_of (Some before) after (Ok done) text h =
     record { count = length text; within = omega arith; written = h ∙ ap (λ t. Some (before ++ t)) (sym (take-length text)) }
 front_of (Some before) after (Err fault) text h = record { count = h.0; within = h.1; written = h.2 }
+
+-- without a fault and a want of memory the whole text was written
+pub whole_of : (told after : Option (List ℕ)) (result : Result (Unit {0}) SinkFault) (text : List ℕ) (Fault Want : Type 0)
+    → (result ≡ Err sink_fault.Failed → Fault) → (result ≡ Err sink_fault.NoMemory → Want) → WritesAll told after result text
+    → IfSome told (λ before. (Fault → ⊥) → (Want → ⊥) → after ≡ Some (before ++ text))
+whole_of None after result text Fault Want fault want h = tt
+whole_of (Some before) after (Ok done) text Fault Want fault want h = λ no_fault no_want. h
+whole_of (Some before) after (Err sink_fault.Failed) text Fault Want fault want h = λ no_fault no_want. absurd (no_fault (fault refl))
+whole_of (Some before) after (Err sink_fault.NoMemory) text Fault Want fault want h = λ no_fault no_want. absurd (no_want (want refl))
 
 -- the line of an answer other than Done is its words, the name in it and a newline
 pub line_parts : (end : End) → (end ≡ answer.Done → ⊥) → line_of end ≡ words_in end ++ (name_in end ++ 10 ∷ [])

@@ -91,8 +91,16 @@ pub fn perform<S: Source, K: Sink, E: Sink, F: Folder>(
     ensures folder_fault { HasCause (F.faults folder.old) (F.faults folder.new)
         (result ≡ End.FolderFault) }
     ensures err_faults { HasCause (E.faults err.old) (E.faults err.new) ⊥ }
+    ensures out_wants { HasCause (K.wants out.old) (K.wants out.new) ⊥ }
+    ensures err_wants { HasCause (E.wants err.old) (E.wants err.new) ⊥ }
     ensures err { IfSome (E.written err.old)
         (λ before. IsFront (line_of result) before (E.written err.new)) }
+
+    // The line is whole but for a fault of the error output or a want of memory there.
+    ensures whole { IfSome (E.written err.old)
+        (λ before. (Rose (E.faults err.old) (E.faults err.new) → ⊥)
+        → (Rose (E.wants err.old) (E.wants err.new) → ⊥)
+        → E.written err.new ≡ Some (before ++ line_of result)) }
 {
     let _ = input;
     let end = answer(alloc, words, out, folder);
@@ -112,6 +120,7 @@ fn answer<K: Sink, F: Folder>(alloc: Global, words: &[String], out: &mut K, fold
     ensures files { F.files folder.new ≡ F.files folder.old }
     ensures unwritten { IsUnwritten result → out.new ≡ out.old }
     ensures write_fault { HasCause (K.faults out.old) (K.faults out.new) (result ≡ End.WriteFault) }
+    ensures out_wants { HasCause (K.wants out.old) (K.wants out.new) ⊥ }
     ensures folder_fault { HasCause (F.faults folder.old) (F.faults folder.new)
         (result ≡ End.FolderFault) }
 {
@@ -138,6 +147,7 @@ fn cover<K: Sink, F: Folder>(
     ensures files { F.files folder.new ≡ F.files folder.old }
     ensures unwritten { IsUnwritten result → out.new ≡ out.old }
     ensures write_fault { HasCause (K.faults out.old) (K.faults out.new) (result ≡ End.WriteFault) }
+    ensures out_wants { HasCause (K.wants out.old) (K.wants out.new) ⊥ }
     ensures folder_fault { HasCause (F.faults folder.old) (F.faults folder.new)
         (result ≡ End.FolderFault) }
 {
@@ -197,6 +207,7 @@ fn write_text<K: Sink>(out: &mut K, text: &[u8]) -> End
     ensures writes { WritesText (K.written out.old) (K.written out.new) text.now result }
     ensures written { IsUnwritten result → ⊥ }
     ensures write_fault { HasCause (K.faults out.old) (K.faults out.new) (result ≡ End.WriteFault) }
+    ensures out_wants { HasCause (K.wants out.old) (K.wants out.new) ⊥ }
 {
     match write_all(out, text) {
         Ok(()) => End::Done,

@@ -11,6 +11,7 @@ use cov_outside::{Sink, SinkFault, write_all};
 pub fn tell<E: Sink>(end: &End, err: &mut E) -> Result<(), SinkFault>
     ensures line { WritesAll (E.written err.old) (E.written err.new) result (line_of end.now) }
     ensures cause { HasCause (E.faults err.old) (E.faults err.new) (IsErrOf result SinkFault.Failed) }
+    ensures want { HasCause (E.wants err.old) (E.wants err.new) (IsErrOf result SinkFault.NoMemory) }
     ensures silent { end.now ≡ End.Done → err.new ≡ err.old }
 {
     match end {
@@ -24,6 +25,7 @@ fn write_line<E: Sink>(err: &mut E, words: &[u8], name: &[u8]) -> Result<(), Sin
     ensures line { WritesAll (E.written err.old) (E.written err.new) result (words.now ++ (name.now
         ++ 10 ∷ [])) }
     ensures cause { HasCause (E.faults err.old) (E.faults err.new) (IsErrOf result SinkFault.Failed) }
+    ensures want { HasCause (E.wants err.old) (E.wants err.new) (IsErrOf result SinkFault.NoMemory) }
 {
     write_all(err, words)?;
     write_all(err, name)?;

@@ -1,8 +1,9 @@
 //! The top call where nothing outside fails.
 
-ghost use Rattle.std.specs.Prelude.{◌≡◌, ◌≢◌, ℕ, List, Some, map, string_bytes};
-ghost use Rattle.cov_outside.specs.Memory.{sure_files, sure_left, sure_written};
-ghost use Rattle.cov_program.specs.Answers.{Covers, IsDone, IsReady};
+ghost use Rattle.std.specs.Prelude.{◌≡◌, ◌≢◌, ◌++◌, ℕ, List, Some, map, string_bytes};
+ghost use Rattle.cov_outside.specs.Memory.{sure_files, sure_left, sure_wants, sure_written};
+ghost use Rattle.cov_outside.specs.Outside.{Rose};
+ghost use Rattle.cov_program.specs.Answers.{Covers, IsDone, IsReady, line_of};
 ghost use Rattle.cov_program.specs.Words.{IsCover};
 
 use cov_outside::{SureFolder, SureSink, SureSource};
@@ -35,6 +36,10 @@ pub fn perform_surely(
     ensures files { sure_files folder.new ≡ sure_files folder.old }
     ensures input { sure_left input.new ≡ sure_left input.old }
     ensures silent { result ≡ End.Done → sure_written err.new ≡ sure_written err.old }
+
+    // The whole line of the answer comes where the error output wants no memory.
+    ensures told { (Rose (sure_wants err.old) (sure_wants err.new) → ⊥)
+        → sure_written err.new ≡ sure_written err.old ++ line_of result }
 {
     perform(alloc, words, input, out, err, folder)
 }
