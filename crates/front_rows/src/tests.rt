@@ -1,0 +1,4 @@
+//! Worked rows, each with values from outside.
+
+mod operator_rows;
+mod operators;

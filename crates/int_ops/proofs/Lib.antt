@@ -1,0 +1,4 @@
+mod BitLaws
+mod Conversions
+mod Rows
+mod Rules

@@ -1,0 +1,13 @@
+use Rattle.std.proofs.Common.{rules, sym, ap, ap₂, ◌∙◌, ◌≡◌, int_div, to_z, of_z}
+use Rattle.std.specs.Int.{w128}
+use Rattle.std.proofs.lemmas.Int.{to_z-of_z}
+use Rattle.int_ops.specs.Apply.{settled}
+use Rattle.int_ops.proofs.Rules.{divided}
+use Rattle.int_ops.proofs.apply.divide.Goals as goal
+
+pub returns-clause-value : goal.returns-clause-value
+returns-clause-value c =
+    let a : to_z w128 (of_z w128 c.args.a) ≡ c.args.a = to_z-of_z w128 c.args.a (search rules) in
+    let b : to_z w128 (of_z w128 c.args.b) ≡ c.args.b = to_z-of_z w128 c.args.b (search rules) in
+    let q : to_z w128 (of_z w128 c.quotient.result) ≡ int_div c.args.a c.args.b = to_z-of_z w128 c.quotient.result (search rules) ∙ (c.quotient.ensures ∙ ap₂ int_div a b) in
+    c.settle.ensures.value ∙ (ap (settled c.args.t) q ∙ sym (divided c.args.t c.args.a c.args.b (λ e. c.if-b-eq0.false (ap (of_z w128) e))))

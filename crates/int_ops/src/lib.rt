@@ -1,0 +1,18 @@
+//! C's integer types, the conversions between them and the operators on their numbers.
+
+#![tactic(auto)]
+
+mod apply;
+mod common;
+mod exact;
+pub mod num;
+pub mod operators;
+mod ranges;
+pub mod types;
+
+pub use apply::{binary, unary};
+pub use common::{common_type, promoted};
+pub use num::Num;
+pub use operators::{ArithTrap, BinOp, UnOp};
+pub use ranges::{convert, greatest, has_sign, is_of, least, width_of};
+pub use types::IntType;
