@@ -4,10 +4,12 @@
 
 mod faults;
 pub mod net;
+pub mod no_memory;
 mod reach;
 pub mod refusal;
 
 pub use net::{ArcKind, FlowArc, Net, NetFault, falls};
+pub use no_memory::NoMemory;
 pub use refusal::Refusal;
 
 #[cfg(test)]

@@ -1,0 +1,6 @@
+pub mod Code
+pub mod Effect
+pub mod Groups
+pub mod Shapes
+pub mod Stack
+pub mod Steps
