@@ -1,4 +1,4 @@
-//! Tests of the front: integer types and operators.
+//! Tests of the front: integer types, operators and tokens.
 #![tactic(auto)]
 
 #[cfg(test)]

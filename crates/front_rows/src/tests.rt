@@ -2,3 +2,4 @@
 
 mod operator_rows;
 mod operators;
+mod tokens;

@@ -1,0 +1,11 @@
+pub mod Bytes
+pub mod Characters
+pub mod Finds
+pub mod Items
+pub mod Literals
+pub mod Marks
+pub mod Reading
+pub mod Scans
+pub mod Spans
+pub mod Tokens
+pub mod Words
