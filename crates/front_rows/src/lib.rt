@@ -1,4 +1,4 @@
-//! Tests of the front: integer types, operators and tokens.
+//! Tests of the front: integer types, operators, tokens and trees.
 #![tactic(auto)]
 
 #[cfg(test)]

@@ -3,3 +3,4 @@
 mod operator_rows;
 mod operators;
 mod tokens;
+mod trees;

@@ -1,0 +1,11 @@
+pub mod Expr
+pub mod Levels
+pub mod Runs
+pub mod Sound
+pub mod Stmt
+pub mod Tree
+pub mod TreeView
+pub mod Typed
+pub mod TypedExpr
+pub mod TypedStmt
+pub mod TypedView
