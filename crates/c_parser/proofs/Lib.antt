@@ -1,0 +1,10 @@
+mod Moves
+mod ExprUnique
+mod VarUnique
+mod StmtUnique
+mod Unique
+mod Rows
+mod ExprDepth
+mod VarDepth
+mod StmtDepth
+mod Depth

@@ -1,0 +1,3 @@
+//! The tree of a C text's tokens.
+
+#![tactic(auto)]
