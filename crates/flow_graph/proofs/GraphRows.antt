@@ -9,7 +9,7 @@ use Rattle.stack_ops.specs.declared.operation.Op.TheVariants as op
 use Rattle.flow_graph.specs.Graph.{Ending, Block}
 use Rattle.flow_graph.specs.Lowered.{unit_of}
 use Rattle.flow_graph.specs.Nets.{pruned, net_of, size_of, real, call_exit}
-use Rattle.flow_graph.proofs.Sources.{counts, sum_of_three, one_or_two, for_ever, exits_deep, calls_itself, two_labels, chooses_in_an_argument, do_continues, for_without_test, falls_through, steps_an_index, comma_with_void, exits_in_an_argument, unreached}
+use Rattle.flow_graph.proofs.Sources.{counts, sum_of_three, one_or_two, for_ever, exits_deep, calls_itself, two_labels, chooses_in_an_argument, do_continues, for_without_test, falls_through, steps_an_index, comma_with_void, exits_in_an_argument, unreached, steps_a_char, shifts_a_char, compares_unsigned, array_in_a_loop, signs}
 
 abbrev block : List Op → Ending → List ℕ → Block
 block ops end lines = record { ops = ops; end = end; lines = lines }
@@ -188,3 +188,54 @@ blocks_of_arguments : graphs exits_in_an_argument ≡
     ∷ block [] (Ending.Call 1 3 5) (3 ∷ [])
     ∷ block [] Ending.Return (3 ∷ []) ∷ []) ∷ []
 blocks_of_arguments = refl
+
+-- conversions stand where types differ: a step is done at int, and its 1 is not converted
+blocks_of_a_char : graphs steps_a_char ≡
+    (block (op.Push (pos 127) ∷ op.Convert type.Char ∷ op.StoreLocal 0 ∷ op.Drop
+    ∷ op.LoadLocal 0 ∷ op.Dup ∷ op.Convert type.Int ∷ op.Push (pos 1) ∷ op.Add type.Int 3 ∷ op.Convert type.Char ∷ op.StoreLocal 0 ∷ op.Drop ∷ op.Drop
+    ∷ op.LoadLocal 0 ∷ op.Convert type.Int ∷ []) Ending.Return (1 ∷ 2 ∷ 3 ∷ 4 ∷ []) ∷ []) ∷ []
+blocks_of_a_char = refl
+
+-- a shift is done at the promoted left type, with the right operand as it is
+blocks_of_a_shift : graphs shifts_a_char ≡
+    (block (op.Push (pos 255) ∷ op.Convert type.UnsignedChar ∷ op.StoreLocal 0 ∷ op.Drop
+    ∷ op.Push (pos 2) ∷ op.Convert type.Long ∷ op.StoreLocal 1 ∷ op.Drop
+    ∷ op.LoadLocal 0 ∷ op.Convert type.Int ∷ op.LoadLocal 1 ∷ op.Shl type.Int 3 ∷ op.Convert type.UnsignedChar ∷ op.StoreLocal 0 ∷ op.Drop
+    ∷ op.LoadLocal 0 ∷ op.Convert type.Int ∷ []) Ending.Return (1 ∷ 2 ∷ 3 ∷ 4 ∷ []) ∷ []) ∷ []
+blocks_of_a_shift = refl
+
+-- `i += 1u`: the old value and the result are converted
+blocks_of_a_sum : graphs compares_unsigned ≡
+    (block (op.Push (pos 2) ∷ op.Minus type.Int 2 ∷ op.StoreLocal 0 ∷ op.Drop
+    ∷ op.LoadLocal 0 ∷ op.Convert type.UnsignedInt ∷ op.Push (pos 1) ∷ op.Add type.UnsignedInt 3 ∷ op.Convert type.Int ∷ op.StoreLocal 0 ∷ op.Drop
+    ∷ op.Push (pos 1) ∷ op.LoadLocal 0 ∷ op.Convert type.UnsignedInt ∷ op.Add type.UnsignedInt 4
+    ∷ op.Push (pos 0) ∷ op.Convert type.UnsignedInt ∷ op.Greater type.UnsignedInt 4 ∷ []) Ending.Return (1 ∷ 2 ∷ 3 ∷ 4 ∷ []) ∷ []) ∷ []
+blocks_of_a_sum = refl
+
+-- the elements of an array in order, with the line of its name at the first
+blocks_of_an_array : graphs array_in_a_loop ≡
+    (block (op.Push (pos 0) ∷ op.StoreLocal 1 ∷ op.Drop ∷ op.Push (pos 0) ∷ op.StoreLocal 0 ∷ op.Drop ∷ []) (Ending.Jump 3) (1 ∷ 2 ∷ 3 ∷ [])
+    ∷ block (op.LoadLocal 0 ∷ op.Push (pos 2) ∷ op.Less type.Int 3 ∷ []) (Ending.Branch 4 6) (3 ∷ [])
+    ∷ block (op.Push (pos 0) ∷ op.GetChar ∷ op.StoreLocalAt 2 3 ∷ op.Drop ∷ op.Push (pos 1) ∷ op.Push (pos 0) ∷ op.StoreLocalAt 2 3 ∷ op.Drop
+    ∷ op.Push (pos 2) ∷ op.Push (pos 0) ∷ op.StoreLocalAt 2 3 ∷ op.Drop
+    ∷ op.LoadLocal 1 ∷ op.Push (pos 10) ∷ op.Mul type.Int 5 ∷ op.Push (pos 0) ∷ op.CheckIndex 3 5 ∷ op.LoadLocalAt 2 3 ∷ op.Add type.Int 5
+    ∷ op.Push (pos 1) ∷ op.CheckIndex 3 5 ∷ op.LoadLocalAt 2 3 ∷ op.Add type.Int 5 ∷ op.StoreLocal 1 ∷ op.Drop
+    ∷ op.Push (pos 1) ∷ op.CheckIndex 3 6 ∷ op.Push (pos 5) ∷ op.StoreLocalAt 2 3 ∷ op.Drop ∷ []) (Ending.Jump 5) (4 ∷ 5 ∷ 6 ∷ [])
+    ∷ block (op.LoadLocal 0 ∷ op.Dup ∷ op.Push (pos 1) ∷ op.Add type.Int 3 ∷ op.StoreLocal 0 ∷ op.Drop ∷ op.Drop ∷ []) (Ending.Back 3) (3 ∷ [])
+    ∷ block (op.LoadLocal 1 ∷ []) Ending.Return (8 ∷ []) ∷ []) ∷ []
+blocks_of_an_array = refl
+
+-- elements that are stepped and changed; `||` and `&&` with their blocks M, T, F and J
+blocks_of_signs : graphs signs ≡
+    (block (op.Push (pos 0) ∷ op.StoreLocal 2 ∷ op.Drop
+    ∷ op.LoadLocal 2 ∷ op.CheckIndex 2 3 ∷ op.Dup ∷ op.LoadLocalAt 0 2 ∷ op.Swap ∷ op.Over ∷ op.Push (pos 1) ∷ op.Add type.Int 3 ∷ op.StoreLocalAt 0 2 ∷ op.Drop ∷ op.Drop
+    ∷ op.LoadLocal 2 ∷ op.CheckIndex 2 3 ∷ op.Dup ∷ op.LoadLocalAt 0 2 ∷ op.Push (pos 1) ∷ op.Sub type.Int 3 ∷ op.StoreLocalAt 0 2 ∷ op.Drop
+    ∷ op.LoadLocal 2 ∷ op.CheckIndex 2 3 ∷ op.Dup ∷ op.LoadLocalAt 0 2 ∷ op.Push (pos 3) ∷ op.Sub type.Int 3 ∷ op.StoreLocalAt 0 2 ∷ op.Drop
+    ∷ op.Push (pos 0) ∷ op.CheckIndex 2 4 ∷ op.LoadLocalAt 0 2 ∷ []) (Ending.Branch 3 5) (1 ∷ 2 ∷ 3 ∷ 4 ∷ [])
+    ∷ block (op.LoadLocal 2 ∷ op.Dup ∷ op.Push (pos 1) ∷ op.Add type.Int 4 ∷ op.StoreLocal 2 ∷ op.Drop ∷ op.CheckIndex 2 4 ∷ op.LoadLocalAt 0 2 ∷ op.Complement type.Int 4
+    ∷ op.Push (pos 258) ∷ op.Convert type.Char ∷ op.Convert type.Int ∷ op.Equal type.Int 4 ∷ []) (Ending.Branch 4 6) (4 ∷ [])
+    ∷ block (op.LoadLocal 2 ∷ []) (Ending.Branch 5 6) (4 ∷ [])
+    ∷ block (op.Push (pos 1) ∷ []) (Ending.Jump 7) (4 ∷ [])
+    ∷ block (op.Push (pos 0) ∷ []) (Ending.Jump 7) (4 ∷ [])
+    ∷ block [] Ending.Return (4 ∷ []) ∷ []) ∷ []
+blocks_of_signs = refl

@@ -5,7 +5,7 @@ use Rattle.stack_ops.specs.declared.endings.Outcome.{Outcome}
 use Rattle.stack_ops.specs.declared.endings.Outcome.TheVariants as outcome
 use Rattle.stack_ops.specs.declared.endings.Trap.TheVariants as trap
 use Rattle.flow_graph.specs.Meaning.{Run, meaning}
-use Rattle.flow_graph.proofs.Sources.{counts, to_ten, sum_of_three, one_or_two, for_ever, exits_deep, calls_itself, overflows, wraps, bad_index, near_else, do_continues, for_without_test, falls_through, chooses_in_an_argument, steps_an_index, comma_with_void, exits_in_an_argument, unreached}
+use Rattle.flow_graph.proofs.Sources.{counts, to_ten, sum_of_three, one_or_two, for_ever, exits_deep, calls_itself, overflows, wraps, bad_index, near_else, do_continues, for_without_test, falls_through, chooses_in_an_argument, steps_an_index, comma_with_void, exits_in_an_argument, unreached, steps_a_char, steps_a_bool, shifts_a_char, compares_unsigned, array_in_a_loop, signs, too_deep}
 
 abbrev run : List ℕ → Outcome → Run
 run output ending = record { output = output; ending = ending }
@@ -88,3 +88,32 @@ exit_in_an_argument = refl
 
 behind_a_return : meaning unreached [] 0 ≡ run [] (outcome.Returned 1)
 behind_a_return = refl
+
+-- 128 becomes -128, and the status is 128
+char_wraps : meaning steps_a_char [] 0 ≡ run [] (outcome.Returned 128)
+char_wraps = refl
+
+bool_turns_over : meaning steps_a_bool [] 0 ≡ run [] (outcome.Returned 1)
+bool_turns_over = refl
+
+-- 1020 becomes 252
+shift_at_int : meaning shifts_a_char [] 0 ≡ run [] (outcome.Returned 252)
+shift_at_int = refl
+
+-- -1 becomes 4294967295; added to 1 that is 0
+sum_without_sign : meaning compares_unsigned [] 0 ≡ run [] (outcome.Returned 0)
+sum_without_sign = refl
+
+-- 3 and 4: 34, since a[1] is 0 again
+zeros_again : meaning array_in_a_loop (3 ∷ 4 ∷ []) 2 ≡ run [] (outcome.Returned 34)
+zeros_again = refl
+
+-- a[0] is -3, whose complement is 2, and i is 1
+signs_and_logic : meaning signs [] 0 ≡ run [] (outcome.Returned 1)
+signs_and_logic = refl
+
+frames_run_out : meaning too_deep [] 3000 ≡ run [] (outcome.Trapped trap.CallDepth 1)
+frames_run_out = refl
+
+turns_run_out_before : meaning too_deep [] 1999 ≡ run [] outcome.OutOfTurns
+turns_run_out_before = refl

@@ -346,3 +346,117 @@ two_labels = record {
   globals = [];
   main = 1;
 }
+
+-- ---- other types than int
+
+abbrev pub of : IntType → TypedKind → ℕ → TypedExpr
+of t kind line = TypedExpr.At kind (base.Int t) 0 line
+
+abbrev pub cell_of : IntType → ℕ → ℕ → TypedExpr
+cell_of t c line = of t (TypedKind.Name (cell.Local c)) line
+
+abbrev pub to : IntType → TypedExpr → ℕ → TypedExpr
+to t e line = of t (TypedKind.Convert e) line
+
+abbrev pub var_of : IntType → ℕ → TypedExpr → ℕ → TypedVar
+var_of t c e line = record { cell = c; number_type = t; length = None; init = TypedInit.One e; place = 0; line = line }
+
+-- 1 int main(void) {
+-- 2 char c = 127;
+-- 3 c++;
+-- 4 return c;
+-- 5 }
+abbrev pub steps_a_char : Typed
+steps_a_char = source 1
+    (declare (var_of type.Char 0 (to type.Char (number 127 2) 2) 2 ∷ [])
+    ∷ TypedStmt.Value (of type.Char (TypedKind.After op.Add (cell_of type.Char 0 3)) 3)
+    ∷ give (to type.Int (cell_of type.Char 0 4) 4) 4 ∷ [])
+
+-- 1 int main(void) {
+-- 2 _Bool b = 5;
+-- 3 --b; --b; b++;
+-- 4 return b;
+-- 5 }
+abbrev pub steps_a_bool : Typed
+steps_a_bool = source 1
+    (declare (var_of type.Bool 0 (to type.Bool (number 5 2) 2) 2 ∷ [])
+    ∷ TypedStmt.Value (of type.Bool (TypedKind.Before op.Sub (cell_of type.Bool 0 3)) 3)
+    ∷ TypedStmt.Value (of type.Bool (TypedKind.Before op.Sub (cell_of type.Bool 0 3)) 3)
+    ∷ TypedStmt.Value (of type.Bool (TypedKind.After op.Add (cell_of type.Bool 0 3)) 3)
+    ∷ give (to type.Int (cell_of type.Bool 0 4) 4) 4 ∷ [])
+
+-- 1 int main(void) {
+-- 2 unsigned char u = 255; long l = 2;
+-- 3 u <<= l;
+-- 4 return u;
+-- 5 }
+abbrev pub shifts_a_char : Typed
+shifts_a_char = source 2
+    (declare (var_of type.UnsignedChar 0 (to type.UnsignedChar (number 255 2) 2) 2 ∷ [])
+    ∷ declare (var_of type.Long 1 (to type.Long (number 2 2) 2) 2 ∷ [])
+    ∷ TypedStmt.Value (of type.UnsignedChar (TypedKind.Assign (Some op.Shl) (cell_of type.UnsignedChar 0 3) (cell_of type.Long 1 3)) 3)
+    ∷ give (to type.Int (cell_of type.UnsignedChar 0 4) 4) 4 ∷ [])
+
+-- 1 int main(void) {
+-- 2 int i = -2;
+-- 3 i += 1u;
+-- 4 return 1u + i > 0;
+-- 5 }
+abbrev pub compares_unsigned : Typed
+compares_unsigned = source 1
+    (declare (var 0 (TypedInit.One (at (TypedKind.Minus (number 2 2)) 2)) 2 ∷ [])
+    ∷ TypedStmt.Value (at (TypedKind.Assign (Some op.Add) (local 0 3) (of type.UnsignedInt (TypedKind.Number (pos 1) type.UnsignedInt) 3)) 3)
+    ∷ give (two op.Greater
+    (of type.UnsignedInt (TypedKind.Binary op.Add (of type.UnsignedInt (TypedKind.Number (pos 1) type.UnsignedInt) 4) (to type.UnsignedInt (local 0 4) 4)) 4)
+    (to type.UnsignedInt (number 0 4) 4) 4) 4 ∷ [])
+
+-- 1 int main(void) {
+-- 2 int i, s = 0;
+-- 3 for (i = 0; i < 2; i++) {
+-- 4 int a[3] = {getchar()};
+-- 5 s = s * 10 + a[0] + a[1];
+-- 6 a[1] = 5;
+-- 7 }
+-- 8 return s;
+-- 9 }
+abbrev pub array_in_a_loop : Typed
+array_in_a_loop = source 5
+    (declare (var 0 TypedInit.Absent 2 ∷ var 1 (TypedInit.One (number 0 2)) 2 ∷ [])
+    ∷ TypedStmt.For
+    (TypedForHead.Head (OtherTyped.There (TypedStmt.Value (set (local 0 3) (number 0 3) 3)))
+    (Some (two op.Less (local 0 3) (number 2 3) 3)) (Some (up (local 0 3) 3)))
+    (TypedStmt.Block (list
+    (declare (record { cell = 2; number_type = type.Int; length = Some 3; init = TypedInit.Several (get 4 ∷ []); place = 0; line = 4 } ∷ [])
+    ∷ TypedStmt.Value (set (local 1 5) (two op.Add (two op.Add (two op.Mul (local 1 5) (number 10 5) 5)
+    (at (TypedKind.Index (cell.Local 2) 3 0 5 (number 0 5)) 5) 5) (at (TypedKind.Index (cell.Local 2) 3 0 5 (number 1 5)) 5) 5) 5)
+    ∷ TypedStmt.Value (set (at (TypedKind.Index (cell.Local 2) 3 0 6 (number 1 6)) 6) (number 5 6) 6) ∷ [])))
+    ∷ give (local 1 8) 8 ∷ [])
+
+-- 1 int main(void) {
+-- 2 int a[2], i = 0;
+-- 3 a[i]++; --a[i]; a[i] -= 3;
+-- 4 return !a[0] || ~a[i++] == (char)258 && +i;
+-- 5 }
+abbrev pub signs : Typed
+signs = source 3
+    (declare (record { cell = 0; number_type = type.Int; length = Some 2; init = TypedInit.Absent; place = 0; line = 2 } ∷ var 2 (TypedInit.One (number 0 2)) 2 ∷ [])
+    ∷ TypedStmt.Value (at (TypedKind.After op.Add (at (TypedKind.Index (cell.Local 0) 2 0 3 (local 2 3)) 3)) 3)
+    ∷ TypedStmt.Value (at (TypedKind.Before op.Sub (at (TypedKind.Index (cell.Local 0) 2 0 3 (local 2 3)) 3)) 3)
+    ∷ TypedStmt.Value (at (TypedKind.Assign (Some op.Sub) (at (TypedKind.Index (cell.Local 0) 2 0 3 (local 2 3)) 3) (number 3 3)) 3)
+    ∷ give (at (TypedKind.OrElse
+    (at (TypedKind.Not (at (TypedKind.Index (cell.Local 0) 2 0 4 (number 0 4)) 4)) 4)
+    (at (TypedKind.AndAlso
+    (two op.Equal (at (TypedKind.Complement (at (TypedKind.Index (cell.Local 0) 2 0 4 (up (local 2 4) 4)) 4)) 4)
+    (to type.Int (of type.Char (TypedKind.Cast (base.Int type.Char) (number 258 4)) 4) 4) 4)
+    (at (TypedKind.Plus (local 2 4)) 4)) 4)) 4) 4 ∷ [])
+
+-- 1 int f(int n) { return f(n + 1); }
+-- 2 int main(void) { return f(0); }
+abbrev pub too_deep : Typed
+too_deep = record {
+  functions =
+      function (codes "f") 1 int (type.Int ∷ []) 1 (give (calls (callee.Function 0) (one_arg (two op.Add (local 0 1) (number 1 1) 1)) 1) 1 ∷ [])
+      ∷ function (codes "main") 2 int [] 0 (give (calls (callee.Function 0) (one_arg (number 0 2)) 2) 2 ∷ []) ∷ [];
+  globals = [];
+  main = 1;
+}

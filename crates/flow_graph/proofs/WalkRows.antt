@@ -9,7 +9,7 @@ use Rattle.stack_ops.specs.declared.endings.Trap.TheVariants as trap
 use Rattle.flow_graph.specs.Lowered.{unit_of}
 use Rattle.flow_graph.specs.Nets.{pruned, net_of, real}
 use Rattle.flow_graph.specs.WalkRun.{Walked, goes, first}
-use Rattle.flow_graph.proofs.Sources.{counts, to_ten, sum_of_three, one_or_two, for_ever, exits_deep, calls_itself, overflows, wraps, bad_index, near_else, do_continues, for_without_test, falls_through, chooses_in_an_argument, steps_an_index, comma_with_void, exits_in_an_argument, unreached}
+use Rattle.flow_graph.proofs.Sources.{counts, to_ten, sum_of_three, one_or_two, for_ever, exits_deep, calls_itself, overflows, wraps, bad_index, near_else, do_continues, for_without_test, falls_through, chooses_in_an_argument, steps_an_index, comma_with_void, exits_in_an_argument, unreached, steps_a_char, steps_a_bool, shifts_a_char, compares_unsigned, array_in_a_loop, signs}
 
 -- a run of at most 60 blocks
 abbrev walked : Typed → List ℕ → ℕ → Option Walked
@@ -135,3 +135,23 @@ back_ten_times = refl
 
 line_once : option_map (λ ws. line_passages (map net_of ((pruned (unit_of to_ten)).graphs)) ws 3) (walks to_ten [] 10) ≡ Some 1
 line_once = refl
+
+-- ---- other types than int
+
+char_wraps : run steps_a_char [] 0 ≡ came [] (outcome.Returned 128)
+char_wraps = refl
+
+bool_turns_over : run steps_a_bool [] 0 ≡ came [] (outcome.Returned 1)
+bool_turns_over = refl
+
+shift_at_int : run shifts_a_char [] 0 ≡ came [] (outcome.Returned 252)
+shift_at_int = refl
+
+sum_without_sign : run compares_unsigned [] 0 ≡ came [] (outcome.Returned 0)
+sum_without_sign = refl
+
+zeros_again : run array_in_a_loop (3 ∷ 4 ∷ []) 2 ≡ came [] (outcome.Returned 34)
+zeros_again = refl
+
+signs_and_logic : run signs [] 0 ≡ came [] (outcome.Returned 1)
+signs_and_logic = refl
