@@ -1,40 +1,12 @@
 -- A tree has at most as many levels as it has tokens: expressions.
-use Rattle.std.proofs.Common.{◌≡◌, ℕ, ◌+◌, ◌≤◌, max, Bool, true, false, cond, List, [], ◌∷◌, length, Some, refl, ap, arith}
+use Rattle.std.proofs.Common.{ℕ, ◌+◌, ◌≤◌, max, Bool, true, false, cond, List, [], ◌∷◌, length, Some, ap, arith}
 use Rattle.std.proofs.Math.Nat.{max-le}
 use Rattle.c_tokens.specs.declared.token.Token.{Token}
-use Rattle.c_tree.specs.Expr.{Expr}
 use Rattle.c_tree.specs.Levels.{levels, levels_if, args_levels}
 use Rattle.c_parser.specs.Words.{key_of, is_type_word, behind_words}
-use Rattle.c_parser.specs.ExprWords.{Sign, signed, Joint, joined, at}
+use Rattle.c_parser.specs.Reads.{result_levels, left_levels}
+use Rattle.c_parser.proofs.ReadLaws.{sign_levels, joint_levels}
 use Rattle.c_parser.specs.ExprGrammar.{Rule, Result, Front}
-
--- the levels of what a rule gives
-abbrev pub result_levels : (r : Rule) → Result r → ℕ
-result_levels (Rule.operand o) = levels
-result_levels Rule.postfix = levels
-result_levels (Rule.steps left o) = levels
-result_levels (Rule.unary p) = levels
-result_levels (Rule.cast b) = levels
-result_levels (Rule.level n) = levels
-result_levels (Rule.tail n left j) = levels
-result_levels Rule.conditional = levels
-result_levels (Rule.choice left b) = levels
-result_levels Rule.assignment = levels
-result_levels (Rule.assigned left o) = levels
-result_levels Rule.expression = levels
-result_levels (Rule.commas left b) = levels
-result_levels (Rule.optional b) = levels_if
-result_levels (Rule.arguments b) = args_levels
-result_levels (Rule.more_arguments b) = args_levels
-
--- the levels of the tree that a rule goes on with
-abbrev pub left_levels : Rule → ℕ
-left_levels (Rule.steps left o) = levels left
-left_levels (Rule.tail n left j) = levels left
-left_levels (Rule.choice left b) = levels left
-left_levels (Rule.assigned left o) = levels left
-left_levels (Rule.commas left b) = levels left
-left_levels _ = 0
 
 -- the greater of two numbers is at most their sum
 pub most_of_two : (a b : ℕ) → max a b ≤ a + b
@@ -48,17 +20,6 @@ either_shorter false xs ys p q = q
 pub words_shorter : (ts : List Token) → length (behind_words ts) ≤ length ts
 words_shorter [] = omega arith
 words_shorter (t ∷ ts) = either_shorter (is_type_word (key_of (Some t.kind))) (behind_words ts) (t ∷ ts) (omega (arith, words_shorter ts)) (omega arith)
-
-sign_levels : (t : Token) (s : Sign) (e : Expr) → levels (at t (signed s e)) ≡ 1 + levels e
-sign_levels t Sign.plus e = refl
-sign_levels t Sign.minus e = refl
-sign_levels t Sign.complement e = refl
-sign_levels t Sign.negation e = refl
-
-joint_levels : (t : Token) (j : Joint) (a b : Expr) → levels (at t (joined j a b)) ≡ 1 + max (levels a) (levels b)
-joint_levels t (Joint.operator o) a b = refl
-joint_levels t Joint.and_also a b = refl
-joint_levels t Joint.or_else a b = refl
 
 pub front_levels : {text : List ℕ} {r : Rule} {ts rest : List Token} {tree : Result r} → Front text r ts tree rest
     → result_levels r tree + length rest ≤ left_levels r + length ts

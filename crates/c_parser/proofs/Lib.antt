@@ -3,8 +3,13 @@ mod ExprUnique
 mod VarUnique
 mod StmtUnique
 mod Unique
+mod ReadLaws
+mod TailLaws
+mod ArgumentLaws
 mod Rows
 mod ExprDepth
 mod VarDepth
 mod StmtDepth
 mod Depth
+mod ListLaws
+mod ParamLaws

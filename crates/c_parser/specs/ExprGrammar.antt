@@ -9,8 +9,14 @@ use Rattle.c_tokens.specs.declared.token.Token.{Token}
 use Rattle.c_tokens.specs.declared.token.TokenKind.TheVariants as kind
 use Rattle.c_tree.specs.declared.expr.Base.{Base}
 use Rattle.c_tree.specs.Expr.{Expr, Kind, Exprs}
+use Rattle.c_parser.specs.declared.begins.Operand.{Operand}
+use Rattle.c_parser.specs.declared.begins.Operand.TheVariants as first
+use Rattle.c_parser.specs.declared.begins.Sign.{Sign}
+use Rattle.c_parser.specs.declared.begins.Prefix.{Prefix}
+use Rattle.c_parser.specs.declared.begins.Prefix.TheVariants as prefix
+use Rattle.c_parser.specs.declared.begins.Joint.{Joint}
 use Rattle.c_parser.specs.Words.{name_of, base_at, behind_words}
-use Rattle.c_parser.specs.ExprWords.{Operand, operand_at, step_at, Sign, signed, Prefix, prefix_at, cast_at, close_at, question_at, comma_at, Joint, joint_at, joined, change_at, is_unary, at}
+use Rattle.c_parser.specs.ExprWords.{operand_at, step_at, signed, prefix_at, cast_at, close_at, question_at, comma_at, joint_at, joined, change_at, is_unary, at}
 
 -- The rules of expressions, with what the next tokens begin, and with the tree of what stands before where a rule goes on with it (own).
 pub data Rule : Type 0 where
@@ -46,26 +52,26 @@ IsMark m t = t.kind ≡ kind.Mark m
 pub data Front (text : List ℕ) : (rule : Rule) → List Token → Result rule → List Token → Type 0 where
   -- a name (C17 6.5.1 paragraph 2)
   name : {t : Token} {rest : List Token} {tree : Expr} → tree ≡ at t (Kind.Name (name_of text t))
-      → Front text (Rule.operand Operand.a_name) (t ∷ rest) tree rest
+      → Front text (Rule.operand first.Name) (t ∷ rest) tree rest
   -- the value and the type are those of the token (C17 6.5.1 paragraph 3)
   number : {t : Token} {rest : List Token} {n : ℤ} {type : IntType} {tree : Expr} → tree ≡ at t (Kind.Number n type)
-      → Front text (Rule.operand (Operand.a_number n type)) (t ∷ rest) tree rest
+      → Front text (Rule.operand (first.Number n type)) (t ∷ rest) tree rest
   -- `EOF` (own)
   eof : {t : Token} {rest : List Token} {tree : Expr} → tree ≡ at t Kind.EofName
-      → Front text (Rule.operand Operand.an_eof) (t ∷ rest) tree rest
+      → Front text (Rule.operand first.EofName) (t ∷ rest) tree rest
   -- `( expr )` (C17 6.5.1)
   paren : {t close : Token} {ts rest : List Token} {e tree : Expr} → Front text Rule.expression ts e (close ∷ rest)
       → IsMark mark.CloseParen close → tree ≡ at t (Kind.Paren e)
-      → Front text (Rule.operand Operand.a_paren) (t ∷ ts) tree rest
+      → Front text (Rule.operand first.Paren) (t ∷ ts) tree rest
   -- a name, `(`, the arguments and `)` (C17 6.5.2)
   call : {t open_ close : Token} {ts rest : List Token} {es : Exprs} {tree : Expr}
       → Front text (Rule.arguments (close_at ts)) ts es (close ∷ rest)
       → IsMark mark.CloseParen close → tree ≡ at t (Kind.Call (name_of text t) es)
-      → Front text (Rule.operand Operand.a_call) (t ∷ open_ ∷ ts) tree rest
+      → Front text (Rule.operand first.Call) (t ∷ open_ ∷ ts) tree rest
   -- a name, `[`, an expression and `]`; the tree stands at the `[` (C17 6.5.2)
   index : {t open_ close : Token} {ts rest : List Token} {e tree : Expr} → Front text Rule.expression ts e (close ∷ rest)
       → IsMark mark.CloseBracket close → tree ≡ at open_ (Kind.Index (name_of text t) t.start t.line e)
-      → Front text (Rule.operand Operand.an_index) (t ∷ open_ ∷ ts) tree rest
+      → Front text (Rule.operand first.Index) (t ∷ open_ ∷ ts) tree rest
   -- an operand, and the steps behind it (C17 6.5.2)
   postfix : {ts more rest : List Token} {e tree : Expr} → Front text (Rule.operand (operand_at ts)) ts e more
       → Front text (Rule.steps e (step_at more)) more tree rest
@@ -78,12 +84,12 @@ pub data Front (text : List ℕ) : (rule : Rule) → List Token → Result rule 
   -- `++` or `--` before a unary expression, a sign before a cast expression (C17 6.5.3)
   before : {t : Token} {ts rest : List Token} {o : BinOp} {e tree : Expr} → Front text (Rule.unary (prefix_at ts)) ts e rest
       → tree ≡ at t (Kind.Before o e)
-      → Front text (Rule.unary (Prefix.a_step o)) (t ∷ ts) tree rest
+      → Front text (Rule.unary (prefix.Step o)) (t ∷ ts) tree rest
   sign : {t : Token} {ts rest : List Token} {s : Sign} {e tree : Expr} → Front text (Rule.cast (cast_at ts)) ts e rest
       → tree ≡ at t (signed s e)
-      → Front text (Rule.unary (Prefix.a_sign s)) (t ∷ ts) tree rest
+      → Front text (Rule.unary (prefix.Sign s)) (t ∷ ts) tree rest
   no_prefix : {ts rest : List Token} {tree : Expr} → Front text Rule.postfix ts tree rest
-      → Front text (Rule.unary Prefix.no_prefix) ts tree rest
+      → Front text (Rule.unary prefix.Absent) ts tree rest
   -- `( base )` before a cast expression (C17 6.5.4)
   cast : {t close : Token} {ts more rest : List Token} {base : Base} {e tree : Expr} → base_at ts ≡ Some base
       → behind_words ts ≡ close ∷ more → IsMark mark.CloseParen close

@@ -1,6 +1,5 @@
 -- What the grammar of expressions asks of the next tokens: which operand, sign, step or operator they begin.
-use Rattle.std.specs.Prelude.{ℕ, ℤ, ◌==◌, Bool, true, false, cond, List, Option, Some, None}
-use Rattle.int_ops.specs.declared.types.IntType.{IntType}
+use Rattle.std.specs.Prelude.{ℕ, ◌==◌, Bool, true, false, cond, List, Option, Some, None}
 use Rattle.int_ops.specs.declared.operators.BinOp.{BinOp}
 use Rattle.int_ops.specs.declared.operators.BinOp.TheVariants as op
 use Rattle.c_tokens.specs.declared.token.Punct.{Punct}
@@ -9,27 +8,25 @@ use Rattle.c_tokens.specs.declared.token.Token.{Token}
 use Rattle.c_tokens.specs.declared.token.TokenKind.{TokenKind}
 use Rattle.c_tokens.specs.declared.token.TokenKind.TheVariants as kind
 use Rattle.c_tree.specs.Expr.{Expr, Kind}
+use Rattle.c_parser.specs.declared.begins.Operand.{Operand}
+use Rattle.c_parser.specs.declared.begins.Operand.TheVariants as first
+use Rattle.c_parser.specs.declared.begins.Sign.{Sign}
+use Rattle.c_parser.specs.declared.begins.Sign.TheVariants as sign
+use Rattle.c_parser.specs.declared.begins.Prefix.{Prefix}
+use Rattle.c_parser.specs.declared.begins.Prefix.TheVariants as prefix
+use Rattle.c_parser.specs.declared.begins.Joint.{Joint}
+use Rattle.c_parser.specs.declared.begins.Joint.TheVariants as joint
 use Rattle.c_parser.specs.Words.{next_kind, behind, mark_at, type_at}
-
--- What an operand begins as (C17 6.5.1 paragraph 1, 6.5.2 paragraph 1).
-pub data Operand : Type 0 where
-  a_name : Operand
-  a_number : ℤ → IntType → Operand
-  an_eof : Operand
-  a_paren : Operand
-  a_call : Operand
-  an_index : Operand
-  no_operand : Operand
 
 -- the operand of a token's kind; the mark behind the token tells a call or an index from a mere name (C17 6.5.2 paragraph 1)
 abbrev pub operand_of : Option TokenKind → Option Punct → Operand
-operand_of (Some kind.Name) (Some mark.OpenParen) = Operand.a_call
-operand_of (Some kind.Name) (Some mark.OpenBracket) = Operand.an_index
-operand_of (Some kind.Name) _ = Operand.a_name
-operand_of (Some (kind.Number number type)) _ = Operand.a_number number type
-operand_of (Some kind.EofName) _ = Operand.an_eof
-operand_of (Some (kind.Mark mark.OpenParen)) _ = Operand.a_paren
-operand_of _ _ = Operand.no_operand
+operand_of (Some kind.Name) (Some mark.OpenParen) = first.Call
+operand_of (Some kind.Name) (Some mark.OpenBracket) = first.Index
+operand_of (Some kind.Name) _ = first.Name
+operand_of (Some (kind.Number number type)) _ = first.Number number type
+operand_of (Some kind.EofName) _ = first.EofName
+operand_of (Some (kind.Mark mark.OpenParen)) _ = first.Paren
+operand_of _ _ = first.Absent
 
 -- the operand that the next tokens begin (C17 6.5.1 paragraph 1, 6.5.2 paragraph 1)
 abbrev pub operand_at : List Token → Operand
@@ -45,35 +42,22 @@ step_of _ = None
 abbrev pub step_at : List Token → Option BinOp
 step_at tokens = step_of (mark_at tokens)
 
--- A sign before its operand (C17 6.5.3 paragraph 1).
-pub data Sign : Type 0 where
-  plus : Sign
-  minus : Sign
-  complement : Sign
-  negation : Sign
-
 -- the tree of a sign and its operand (C17 6.5.3.3)
 abbrev pub signed : Sign → Expr → Kind
-signed Sign.plus e = Kind.Plus e
-signed Sign.minus e = Kind.Minus e
-signed Sign.complement e = Kind.Complement e
-signed Sign.negation e = Kind.Not e
-
--- What stands before the operand of a unary expression (C17 6.5.3 paragraph 1).
-pub data Prefix : Type 0 where
-  no_prefix : Prefix
-  a_step : BinOp → Prefix
-  a_sign : Sign → Prefix
+signed sign.Plus e = Kind.Plus e
+signed sign.Minus e = Kind.Minus e
+signed sign.Complement e = Kind.Complement e
+signed sign.Not e = Kind.Not e
 
 -- the prefix that a mark is (C17 6.5.3 paragraph 1)
 abbrev pub prefix_of : Option Punct → Prefix
-prefix_of (Some mark.PlusPlus) = Prefix.a_step op.Add
-prefix_of (Some mark.MinusMinus) = Prefix.a_step op.Sub
-prefix_of (Some mark.Plus) = Prefix.a_sign Sign.plus
-prefix_of (Some mark.Minus) = Prefix.a_sign Sign.minus
-prefix_of (Some mark.Tilde) = Prefix.a_sign Sign.complement
-prefix_of (Some mark.Not) = Prefix.a_sign Sign.negation
-prefix_of _ = Prefix.no_prefix
+prefix_of (Some mark.PlusPlus) = prefix.Step op.Add
+prefix_of (Some mark.MinusMinus) = prefix.Step op.Sub
+prefix_of (Some mark.Plus) = prefix.Sign sign.Plus
+prefix_of (Some mark.Minus) = prefix.Sign sign.Minus
+prefix_of (Some mark.Tilde) = prefix.Sign sign.Complement
+prefix_of (Some mark.Not) = prefix.Sign sign.Not
+prefix_of _ = prefix.Absent
 
 -- the prefix that the next token is (C17 6.5.3 paragraph 1)
 abbrev pub prefix_at : List Token → Prefix
@@ -115,32 +99,26 @@ comma_at tokens = is_comma (mark_at tokens)
 abbrev pub cast_at : List Token → Bool
 cast_at tokens = cond (is_open (mark_at tokens)) (type_at (behind tokens)) false
 
--- What joins two operands (C17 6.5.5 to 6.5.14).
-pub data Joint : Type 0 where
-  operator : BinOp → Joint
-  and_also : Joint
-  or_else : Joint
-
 -- the joint that a mark is (C17 6.5.5 to 6.5.14)
 abbrev pub joint_of : Punct → Option Joint
-joint_of mark.Star = Some (Joint.operator op.Mul)
-joint_of mark.Slash = Some (Joint.operator op.Div)
-joint_of mark.Percent = Some (Joint.operator op.Rem)
-joint_of mark.Plus = Some (Joint.operator op.Add)
-joint_of mark.Minus = Some (Joint.operator op.Sub)
-joint_of mark.ShiftLeft = Some (Joint.operator op.Shl)
-joint_of mark.ShiftRight = Some (Joint.operator op.Shr)
-joint_of mark.Less = Some (Joint.operator op.Less)
-joint_of mark.Greater = Some (Joint.operator op.Greater)
-joint_of mark.LessEqual = Some (Joint.operator op.LessEqual)
-joint_of mark.GreaterEqual = Some (Joint.operator op.GreaterEqual)
-joint_of mark.EqualEqual = Some (Joint.operator op.Equal)
-joint_of mark.NotEqual = Some (Joint.operator op.NotEqual)
-joint_of mark.And = Some (Joint.operator op.And)
-joint_of mark.Caret = Some (Joint.operator op.Xor)
-joint_of mark.Or = Some (Joint.operator op.Or)
-joint_of mark.AndAnd = Some Joint.and_also
-joint_of mark.OrOr = Some Joint.or_else
+joint_of mark.Star = Some (joint.Operator op.Mul)
+joint_of mark.Slash = Some (joint.Operator op.Div)
+joint_of mark.Percent = Some (joint.Operator op.Rem)
+joint_of mark.Plus = Some (joint.Operator op.Add)
+joint_of mark.Minus = Some (joint.Operator op.Sub)
+joint_of mark.ShiftLeft = Some (joint.Operator op.Shl)
+joint_of mark.ShiftRight = Some (joint.Operator op.Shr)
+joint_of mark.Less = Some (joint.Operator op.Less)
+joint_of mark.Greater = Some (joint.Operator op.Greater)
+joint_of mark.LessEqual = Some (joint.Operator op.LessEqual)
+joint_of mark.GreaterEqual = Some (joint.Operator op.GreaterEqual)
+joint_of mark.EqualEqual = Some (joint.Operator op.Equal)
+joint_of mark.NotEqual = Some (joint.Operator op.NotEqual)
+joint_of mark.And = Some (joint.Operator op.And)
+joint_of mark.Caret = Some (joint.Operator op.Xor)
+joint_of mark.Or = Some (joint.Operator op.Or)
+joint_of mark.AndAnd = Some joint.AndAlso
+joint_of mark.OrOr = Some joint.OrElse
 joint_of _ = None
 
 -- the level of an operator, from the tightest (C17 6.5.5 to 6.5.12)
@@ -164,9 +142,9 @@ op_level op.Or = 8
 
 -- the level of a joint, from the tightest, 1, to the loosest, 10 (C17 6.5.5 to 6.5.14)
 abbrev pub joint_level : Joint → ℕ
-joint_level (Joint.operator o) = op_level o
-joint_level Joint.and_also = 9
-joint_level Joint.or_else = 10
+joint_level (joint.Operator o) = op_level o
+joint_level joint.AndAlso = 9
+joint_level joint.OrElse = 10
 
 -- the joint where it has this level (own)
 abbrev pub at_level : ℕ → Option Joint → Option Joint
@@ -184,9 +162,9 @@ joint_at n tokens = at_level n (joint_if (mark_at tokens))
 
 -- the tree of a joint and its operands (C17 6.5.5 to 6.5.14)
 abbrev pub joined : Joint → Expr → Expr → Kind
-joined (Joint.operator o) a b = Kind.Binary o a b
-joined Joint.and_also a b = Kind.AndAlso a b
-joined Joint.or_else a b = Kind.OrElse a b
+joined (joint.Operator o) a b = Kind.Binary o a b
+joined joint.AndAlso a b = Kind.AndAlso a b
+joined joint.OrElse a b = Kind.OrElse a b
 
 -- the operator of an assignment that a mark is; `=` has none (C17 6.5.16 paragraph 1)
 abbrev pub change_of : Option Punct → Option (Option BinOp)

@@ -2,14 +2,15 @@
 use Rattle.std.specs.Prelude.{◌≡◌, ℕ, Bool, true, false, cond, List, [], ◌∷◌, Option, Some, None}
 use Rattle.c_tokens.specs.declared.token.Keyword.{Keyword}
 use Rattle.c_tokens.specs.declared.token.Keyword.TheVariants as key
-use Rattle.c_tokens.specs.declared.token.Punct.{Punct}
 use Rattle.c_tokens.specs.declared.token.Punct.TheVariants as mark
 use Rattle.c_tokens.specs.declared.token.Token.{Token}
 use Rattle.c_tree.specs.declared.expr.Base.{Base}
 use Rattle.c_tree.specs.Stmt.{Var, Stmts}
 use Rattle.c_tree.specs.Tree.{Param, Head, Outer, Tree}
+use Rattle.c_parser.specs.declared.begins.ParamsForm.{ParamsForm}
+use Rattle.c_parser.specs.declared.begins.ParamsForm.TheVariants as form
 use Rattle.c_parser.specs.Words.{name_of, mark_at, key_at, name_at, behind, base_at, behind_words}
-use Rattle.c_parser.specs.ExprWords.{is_open, comma_at}
+use Rattle.c_parser.specs.ExprWords.{is_open, close_at, comma_at}
 use Rattle.c_parser.specs.ExprGrammar.{IsMark}
 use Rattle.c_parser.specs.VarGrammar.{close_brace_at, VarRule, VarFront}
 use Rattle.c_parser.specs.StmtGrammar.{semicolon_at, StmtRule, StmtFront}
@@ -23,21 +24,19 @@ none_at (t ∷ ts) = false
 abbrev pub function_at : List Token → Bool
 function_at tokens = cond (name_at (behind_words tokens)) (is_open (mark_at (behind (behind_words tokens)))) false
 
--- What stands in the parentheses of a function (C17 6.7.6.3).
-pub data ParamsForm : Type 0 where
-  no_params : ParamsForm
-  only_void : ParamsForm
-  some_params : ParamsForm
+-- a keyword is there and is `void` (own)
+abbrev pub is_void : Option Keyword → Bool
+is_void (Some key.Void) = true
+is_void _ = false
 
--- `)` is no parameters, and so are `void` and `)`; the second mark is that behind the token (C17 6.7.6.3 paragraph 10)
-abbrev pub params_of : Option Punct → Option Keyword → Option Punct → ParamsForm
-params_of (Some mark.CloseParen) word next = ParamsForm.no_params
-params_of first (Some key.Void) (Some mark.CloseParen) = ParamsForm.only_void
-params_of _ _ _ = ParamsForm.some_params
+-- the next token is `void` (own)
+abbrev pub void_at : List Token → Bool
+void_at tokens = is_void (key_at tokens)
 
--- the parameters that the next tokens begin (C17 6.7.6.3)
+-- the parameters that the next tokens begin: `)` is none, and so are `void` and `)` (C17 6.7.6.3 paragraph 10)
 abbrev pub params_at : List Token → ParamsForm
-params_at tokens = params_of (mark_at tokens) (key_at tokens) (mark_at (behind tokens))
+params_at tokens =
+    cond (close_at tokens) form.Empty (cond (void_at tokens) (cond (close_at (behind tokens)) form.OnlyVoid form.Listed) form.Listed)
 
 -- no parameter is without a name (C17 6.9.1 paragraph 5)
 abbrev pub all_named : List Param → Bool
@@ -98,11 +97,11 @@ pub data UnitFront (text : List ℕ) : (rule : UnitRule) → List Token → Unit
       → IsMark mark.CloseBrace close → tree ≡ Outer.Function head ss
       → UnitFront text (UnitRule.body head false) (open_ ∷ ts) tree rest
   -- nothing, `void`, or parameters with commas between them (C17 6.7.6.3)
-  no_params : {rest : List Token} {tree : List Param} → tree ≡ [] → UnitFront text (UnitRule.params ParamsForm.no_params) rest tree rest
+  no_params : {rest : List Token} {tree : List Param} → tree ≡ [] → UnitFront text (UnitRule.params form.Empty) rest tree rest
   only_void : {t : Token} {rest : List Token} {tree : List Param} → tree ≡ []
-      → UnitFront text (UnitRule.params ParamsForm.only_void) (t ∷ rest) tree rest
+      → UnitFront text (UnitRule.params form.OnlyVoid) (t ∷ rest) tree rest
   some_params : {ts rest : List Token} {tree : List Param} → UnitFront text UnitRule.param_list ts tree rest
-      → UnitFront text (UnitRule.params ParamsForm.some_params) ts tree rest
+      → UnitFront text (UnitRule.params form.Listed) ts tree rest
   param_list : {ts more rest : List Token} {p : Param} {ps tree : List Param} → UnitFront text (UnitRule.param (name_at (behind_words ts))) ts p more
       → UnitFront text (UnitRule.more_params (comma_at more)) more ps rest → tree ≡ p ∷ ps
       → UnitFront text UnitRule.param_list ts tree rest

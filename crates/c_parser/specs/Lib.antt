@@ -4,3 +4,4 @@ pub mod ExprGrammar
 pub mod VarGrammar
 pub mod StmtGrammar
 pub mod Grammar
+pub mod Reads

@@ -2,5 +2,6 @@
 
 mod operator_rows;
 mod operators;
+mod parameters;
 mod tokens;
 mod trees;
