@@ -104,6 +104,12 @@ blocks_of_a_switch : graphs two_labels ≡
     ∷ (block (op.Push (pos 0) ∷ []) Ending.Return (1 ∷ []) ∷ []) ∷ []
 blocks_of_a_switch = refl
 
+-- two cases that go to one block are one arc
+nets_of_a_switch : nets two_labels ≡
+    net 6 (real 0 2 ∷ real 2 3 ∷ real 2 4 ∷ real 3 1 ∷ real 4 5 ∷ real 5 1 ∷ []) ([] ∷ [] ∷ (1 ∷ []) ∷ (1 ∷ []) ∷ [] ∷ (1 ∷ []) ∷ [])
+    ∷ net 3 (real 0 2 ∷ real 2 1 ∷ []) ([] ∷ [] ∷ (1 ∷ []) ∷ []) ∷ []
+nets_of_a_switch = refl
+
 -- what stands behind a `return` begins a block that nothing enters, which pruning drops
 blocks_behind_a_return : graphs unreached ≡
     (block (op.Push (pos 1) ∷ []) Ending.Return (1 ∷ 2 ∷ [])
