@@ -1,7 +1,15 @@
+mod FurtherRows
+mod FurtherSources
 mod GraphRows
 mod MeaningRows
 pub mod OrderLaws
 mod Sources
 pub mod SpareTurns
+mod StatementRows
+mod StatementSources
+mod TrapRows
+mod TrapSources
+mod TypeRows
+mod TypeSources
 pub mod WalkLaws
 mod WalkRows

@@ -77,8 +77,8 @@ no_choice : meaning chooses_in_an_argument (codes "b") 1 ≡ run (0 ∷ []) (out
 no_choice = refl
 
 -- 3 + (10 + 1) is 14, and i is 1
-old_value_before_the_new : meaning steps_an_index (10 ∷ []) 0 ≡ run [] (outcome.Returned 141)
-old_value_before_the_new = refl
+index_steps_once : meaning steps_an_index (10 ∷ []) 0 ≡ run [] (outcome.Returned 141)
+index_steps_once = refl
 
 void_side : meaning comma_with_void [] 1 ≡ run (codes "f") (outcome.Returned 7)
 void_side = refl

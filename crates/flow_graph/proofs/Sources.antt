@@ -1,11 +1,12 @@
 -- Typed sources, written by hand by the rules on types and conversions, each with its text.
-use Rattle.std.specs.Prelude.{ℕ, pos, List, [], ◌∷◌, Some, None, codes}
+use Rattle.std.specs.Prelude.{ℕ, ℤ, pos, List, [], ◌∷◌, Some, None, codes}
 use Rattle.int_ops.specs.declared.types.IntType.{IntType}
 use Rattle.int_ops.specs.declared.types.IntType.TheVariants as type
 use Rattle.int_ops.specs.declared.operators.BinOp.{BinOp}
 use Rattle.int_ops.specs.declared.operators.BinOp.TheVariants as op
 use Rattle.c_tree.specs.declared.expr.Base.{Base}
 use Rattle.c_tree.specs.declared.expr.Base.TheVariants as base
+use Rattle.c_tree.specs.declared.typed_expr.CellAt.{CellAt}
 use Rattle.c_tree.specs.declared.typed_expr.CellAt.TheVariants as cell
 use Rattle.c_tree.specs.declared.typed_expr.Callee.{Callee}
 use Rattle.c_tree.specs.declared.typed_expr.Callee.TheVariants as callee
@@ -26,6 +27,17 @@ number n line = at (TypedKind.Number (pos n) type.Int) line
 
 abbrev pub local : ℕ → ℕ → TypedExpr
 local c line = at (TypedKind.Name (cell.Local c)) line
+
+abbrev pub global : ℕ → ℕ → TypedExpr
+global c line = at (TypedKind.Name (cell.Global c)) line
+
+-- an element of an array of so many ints that begins in this cell
+abbrev pub element : CellAt → ℕ → TypedExpr → ℕ → TypedExpr
+element c n index line = at (TypedKind.Index c n 0 line index) line
+
+-- a form without a value
+abbrev pub at_void : TypedKind → ℕ → TypedExpr
+at_void kind line = TypedExpr.At kind base.Void 0 line
 
 abbrev pub two : BinOp → TypedExpr → TypedExpr → ℕ → TypedExpr
 two o a b line = at (TypedKind.Binary o a b) line
@@ -59,6 +71,9 @@ items (i ∷ is) = TypedItems.Further i (items is)
 abbrev pub var : ℕ → TypedInit → ℕ → TypedVar
 var c init line = record { cell = c; number_type = type.Int; length = None; init = init; place = 0; line = line }
 
+abbrev pub array_of : IntType → ℕ → ℕ → TypedInit → ℕ → TypedVar
+array_of t c n init line = record { cell = c; number_type = t; length = Some n; init = init; place = 0; line = line }
+
 abbrev pub declare : List TypedVar → TypedStmt
 declare vs = TypedStmt.Vars vs
 
@@ -77,6 +92,10 @@ main_of cells body = function (codes "main") 1 int [] cells body
 
 abbrev pub source : ℕ → List TypedStmt → Typed
 source cells body = record { functions = main_of cells body ∷ []; globals = []; main = 0 }
+
+-- the place of `main`, the numbers of the globals' cells, and the functions
+abbrev pub program : ℕ → List ℤ → List TypedFunction → Typed
+program main globals functions = record { functions = functions; globals = globals; main = main }
 
 -- ---- the sources
 

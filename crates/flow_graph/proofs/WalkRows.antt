@@ -87,8 +87,8 @@ choice = refl
 no_choice : run chooses_in_an_argument (codes "b") 1 ≡ came (0 ∷ []) (outcome.Returned 0)
 no_choice = refl
 
-old_value_before_the_new : run steps_an_index (10 ∷ []) 0 ≡ came [] (outcome.Returned 141)
-old_value_before_the_new = refl
+index_steps_once : run steps_an_index (10 ∷ []) 0 ≡ came [] (outcome.Returned 141)
+index_steps_once = refl
 
 void_side : run comma_with_void [] 1 ≡ came (codes "f") (outcome.Returned 7)
 void_side = refl
