@@ -8,7 +8,7 @@ use Rattle.flow_graph.specs.Lowered.{unit_of}
 use Rattle.flow_graph.specs.Nets.{pruned}
 use Rattle.flow_graph.specs.WalkRun.{goes, first}
 use Rattle.flow_graph.specs.Meaning.{Run, meaning}
-use Rattle.flow_graph.proofs.FurtherSources.{puts_bytes, without_return, copies, adds_to_itself, adds_to_an_element, takes_from_a_global, assigns_an_element, all_steps, steps_in_a_sum, all_operators, below_zero, all_comparisons, all_changes, all_signs, steps_globals, steps_elements, takes_bytes, two_arguments, call_in_a_call, own_cells, fresh_cells, main_again, logic, leaves_out_sides, chooses, void_sides, gives_minus_one, gives_minus_256, gives_511, exits_below_zero, exits_with_300, exits_in_a_test, exits_in_a_list, list_reads_itself}
+use Rattle.flow_graph.proofs.FurtherSources.{puts_bytes, without_return, copies, adds_to_itself, adds_to_an_element, takes_from_a_global, assigns_an_element, all_steps, steps_in_a_sum, all_operators, below_zero, all_comparisons, all_changes, all_signs, steps_globals, steps_elements, takes_bytes, two_arguments, call_in_a_call, own_cells, fresh_cells, main_again, logic, leaves_out_sides, chooses, void_sides, gives_minus_one, gives_minus_256, gives_511, exits_below_zero, exits_with_300, exits_in_a_test, exits_in_a_list, list_reads_itself, exits_as_an_argument}
 
 abbrev run : List ℕ → Outcome → Run
 run output ending = record { output = output; ending = ending }
@@ -144,3 +144,6 @@ exit_in_a_list = (refl, refl)
 
 list_from_the_first_on : Comes list_reads_itself [] 0 [] (outcome.Returned 30)
 list_from_the_first_on = (refl, refl)
+
+exit_as_an_argument : Comes exits_as_an_argument [] 1 (codes "A") (outcome.Exited 4)
+exit_as_an_argument = (refl, refl)

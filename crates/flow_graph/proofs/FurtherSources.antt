@@ -462,3 +462,16 @@ abbrev pub list_reads_itself : Typed
 list_reads_itself = source 4
     (declare (array_of type.Int 0 4 (TypedInit.Several ((number 1 2) ∷ (two op.Add (element (cell.Local 0) 4 (number 0 2) 2) (number 1 2) 2) ∷ (two op.Add (element (cell.Local 0) 4 (number 1 2) 2) (number 1 2) 2) ∷ [])) 2 ∷ [])
     ∷ give (two op.Add (two op.Mul (element (cell.Local 0) 4 (number 2 3) 3) (number 10 3) 3) (element (cell.Local 0) 4 (number 3 3) 3) 3) 3 ∷ [])
+
+-- 1 int f(int a, int b) { return a + b; }
+-- 2 int main(void) { return f(f(1, putchar('A')), (exit(4), 2)); }
+abbrev pub exits_as_an_argument : Typed
+exits_as_an_argument = record {
+  functions =
+      function (codes "f") 1 int (type.Int ∷ type.Int ∷ []) 2 (give (two op.Add (local 0 1) (local 1 1) 1) 1 ∷ [])
+      ∷ function (codes "main") 2 int [] 0
+      (give (calls (callee.Function 0) (TypedExprs.More (calls (callee.Function 0) (TypedExprs.More (number 1 2) (one_arg (put (number 65 2) 2))) 2)
+      (one_arg (at (TypedKind.Comma (at_void (TypedKind.Call callee.Exit (one_arg (number 4 2))) 2) (number 2 2)) 2))) 2) 2 ∷ []) ∷ [];
+  globals = [];
+  main = 1;
+}
