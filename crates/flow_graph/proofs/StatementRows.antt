@@ -9,7 +9,7 @@ use Rattle.flow_graph.specs.WalkRun.{goes, first}
 use Rattle.flow_graph.proofs.FurtherRows.{Comes}
 use Rattle.flow_graph.proofs.StatementSources.{default_first, no_default, empty_switch, only_a_default, switch_in_a_while, switch_in_a_for, switch_in_a_do, inside_a_switch, jumps_over, return_from_within, case_in_a_call, continue_in_a_do, for_with_a_declaration, while_with_all, for_in_a_for, declares_in_blocks, steps_for_ever, tests_for_ever, body_for_ever, continues_for_ever, breaks_a_while, breaks_a_do, if_in_an_else, counts_words}
 
-default_runs_on : Comes default_first (5 ∷ []) 0 (codes "D1") (outcome.Returned 0)
+default_runs_on : Comes default_first (5 ∷ []) 0 (codes "x1") (outcome.Returned 0)
 default_runs_on = (refl, refl)
 
 case_behind_the_default : Comes default_first (1 ∷ []) 0 (codes "1") (outcome.Returned 0)
@@ -30,7 +30,7 @@ last_case = (refl, refl)
 switch_without_items : Comes empty_switch [] 0 (codes "e") (outcome.Returned 7)
 switch_without_items = (refl, refl)
 
-switch_with_only_a_default : Comes only_a_default [] 0 (codes "D") (outcome.Returned 7)
+switch_with_only_a_default : Comes only_a_default [] 0 (codes "x") (outcome.Returned 7)
 switch_with_only_a_default = (refl, refl)
 
 continue_through_a_switch : Comes switch_in_a_while [] 3 (codes ".d.") (outcome.Returned 3)

@@ -11,7 +11,7 @@ use Rattle.flow_graph.proofs.Sources.{int, at, number, local, global, two, set, 
 
 -- 1 int main(void) {
 -- 2 switch (getchar()) {
--- 3 default: putchar('D');
+-- 3 default: putchar('x');
 -- 4 case 1: putchar('1'); break;
 -- 5 case -1: putchar('-');
 -- 6 }
@@ -20,7 +20,7 @@ use Rattle.flow_graph.proofs.Sources.{int, at, number, local, global, two, set, 
 abbrev pub default_first : Typed
 default_first = source 0
     (TypedStmt.Switch (get 2) (items (TypedItem.Default 0
-    ∷ TypedItem.Item (TypedStmt.Value (put (number 68 3) 3))
+    ∷ TypedItem.Item (TypedStmt.Value (put (number 120 3) 3))
     ∷ TypedItem.Case (pos 1) 0
     ∷ TypedItem.Item (TypedStmt.Value (put (number 49 4) 4))
     ∷ TypedItem.Item (TypedStmt.Break 0 4)
@@ -58,7 +58,7 @@ empty_switch = source 0
 -- 1 int main(void) {
 -- 2 switch (1) {
 -- 3 putchar('X');
--- 4 default: putchar('D');
+-- 4 default: putchar('x');
 -- 5 }
 -- 6 return 7;
 -- 7 }
@@ -66,7 +66,7 @@ abbrev pub only_a_default : Typed
 only_a_default = source 0
     (TypedStmt.Switch (number 1 2) (items (TypedItem.Item (TypedStmt.Value (put (number 88 3) 3))
     ∷ TypedItem.Default 0
-    ∷ TypedItem.Item (TypedStmt.Value (put (number 68 4) 4)) ∷ []))
+    ∷ TypedItem.Item (TypedStmt.Value (put (number 120 4) 4)) ∷ []))
     ∷ give (number 7 6) 6 ∷ [])
 
 -- 1 int main(void) {
