@@ -1,7 +1,8 @@
 //! What stands in the parentheses of a function, read from tokens.
 
+use crate::{TextFault, params_of_text};
 use c_parser::{ParseFault, read_params};
-use c_tokens::scan;
+use c_tokens::{LexFault, scan};
 use c_tree::{Base, Param};
 use cov_base::Refusal;
 use int_ops::IntType;
@@ -53,6 +54,31 @@ fn assert_none(rt: &(impl AllocGlobal + Abort), text: &[u8]) {
         Err(Refusal::Refused(ParseFault::Syntax)) => {}
         _ => panic!(rt; "parameters in {text:?}"),
     }
+}
+
+/// Fails unless a text has this fault in place of parameters.
+fn assert_fault(rt: &(impl AllocGlobal + Abort), text: &[u8], expected: TextFault) {
+    assert!(rt; text.len() <= 1_048_576);
+    match params_of_text(rt.alloc(), text) {
+        Err(Refusal::Refused(fault)) => assert_eq!(rt; fault, expected, "of {text:?}"),
+        _ => panic!(rt; "no fault of {text:?}"),
+    }
+}
+
+#[test]
+fn texts_begin_with_parameters(rt: HostRuntime) {
+    let rows: [Row; 2] = [(INT, None, 0), (CHAR, Some(b"c"), 9)];
+    match params_of_text(rt.alloc(), b"int,char c) {") {
+        Ok(params) => {
+            assert_eq!(rt; params.len(), rows.len());
+            for (param, row) in params.as_slice().iter().zip(&rows) {
+                assert!(rt; is_row(param, row), "{param:?}");
+            }
+        }
+        Err(_) => panic!(rt; "no parameters"),
+    }
+    assert_fault(&rt, b"int,)", TextFault::Parse(ParseFault::Syntax));
+    assert_fault(&rt, b"int $", TextFault::Lex(LexFault::BadByte(4)));
 }
 
 #[test]

@@ -1,7 +1,9 @@
-//! Each call with ample memory: a stack, the input and the output, and a program as plain data.
+//! Each call with ample memory: a stack, the input and the output, a program as plain data, and operators by way of the machine.
 
 ghost use Rattle.std.specs.Prelude.{◌≡◌, [], ◌∷◌, map, pos, IfOk};
 
+use crate::by_stack;
+use int_ops::{BinOp, IntType};
 use stack_ops::{Code, FunctionCode, Op, OpStack, Outcome, RunIo, Trap, step_op};
 use std::alloc::{AllocError, Global};
 use std::test::Fail;
@@ -125,5 +127,48 @@ fn a_program_is_plain_data(rt: HostRuntime) -> Result<(), Fail> {
         [Op::Push(0), Op::Return].as_slice()
     );
     assert_ne!(rt; Outcome::Returned(0), Outcome::Trapped(Trap::CallDepth, 1));
+    Ok(())
+}
+
+#[test]
+fn operators_go_by_way_of_the_machine(rt: HostRuntime) -> Result<(), Fail> {
+    let int = IntType::Int;
+    // Each operator with its number for 12 and 10.
+    let rows: [(BinOp, i128); 16] = [
+        (BinOp::Mul, 120),
+        (BinOp::Div, 1),
+        (BinOp::Rem, 2),
+        (BinOp::Add, 22),
+        (BinOp::Sub, 2),
+        (BinOp::Shl, 12_288),
+        (BinOp::Shr, 0),
+        (BinOp::Less, 0),
+        (BinOp::Greater, 1),
+        (BinOp::LessEqual, 0),
+        (BinOp::GreaterEqual, 1),
+        (BinOp::Equal, 0),
+        (BinOp::NotEqual, 1),
+        (BinOp::And, 8),
+        (BinOp::Xor, 6),
+        (BinOp::Or, 14),
+    ];
+    for (op, number) in rows {
+        let answer = by_stack(rt.alloc(), op, int, 12, 10)?;
+        assert_eq!(rt; answer, Ok(number), "of {op:?}");
+    }
+    let sum = by_stack(rt.alloc(), BinOp::Add, int, 2_147_483_647, 1)?;
+    assert_eq!(rt; sum, Err(Trap::Overflow));
+    let wrapped = by_stack(
+        rt.alloc(),
+        BinOp::Add,
+        IntType::UnsignedInt,
+        4_294_967_295,
+        1,
+    )?;
+    assert_eq!(rt; wrapped, Ok(0));
+    let quotient = by_stack(rt.alloc(), BinOp::Div, int, 12, 0)?;
+    assert_eq!(rt; quotient, Err(Trap::DivideByZero));
+    let shifted = by_stack(rt.alloc(), BinOp::Shl, int, 12, 32)?;
+    assert_eq!(rt; shifted, Err(Trap::ShiftRange));
     Ok(())
 }
