@@ -10,13 +10,13 @@ input, so that no compiler knows them. Each figure is the best of nine runs, the
 rounds. The last line says whether the bound holds: at most 1.5 times the time of the plain loop.
 """
 import os
-import shutil
 import subprocess
 import sys
 import tempfile
 import time
 
-TOP = os.path.dirname(os.path.dirname(os.path.abspath(__file__)))
+from scratch import program_in, write
+
 RUNS = 9
 BOUND = 1.5
 STEPS_A_ROUND = 8
@@ -609,37 +609,15 @@ fn main() {
 """
 
 
-def write(folder, name, text):
-    path = os.path.join(folder, name)
-    os.makedirs(os.path.dirname(path), exist_ok=True)
-    with open(path, "w", encoding="utf-8") as file:
-        file.write(text)
-
-
 def input_of(times):
     return f"{times}\n{chr(10).join(ROUNDS)}\n".encode()
 
 
 def proved_program(folder):
     """Builds the program over `step_op`, and gives its path."""
-    for name in ("cov_base", "int_ops", "stack_ops"):
-        shutil.copytree(os.path.join(TOP, "crates", name), os.path.join(folder, "crates", name),
-                        ignore=shutil.ignore_patterns("must-fail", "out"), dirs_exist_ok=True)
-    with open(os.path.join(TOP, "crates.txt"), encoding="utf-8") as file:
-        lines = [line for line in file if line.split(":")[0] in ("cov_base", "int_ops", "stack_ops")]
-    write(folder, "crates.txt", "".join(lines) + "step_bench: int_ops stack_ops\n")
-    crate = os.path.join(folder, "crates", "step_bench")
-    write(crate, "src/main.rt", MAIN_RT)
-    write(crate, "src/rounds.rt", ROUNDS_RT)
-    write(crate, "specs/Lib.antt", "pub mod Turns\n")
-    write(crate, "specs/Turns.antt", SPECS)
-    for name, text in PROOFS.items():
-        write(crate, os.path.join("proofs", name), text)
-    done = subprocess.run(["rt", "run", "--jobs", "2"], cwd=crate, input=input_of(0), capture_output=True)
-    if done.returncode != 0:
-        sys.stderr.buffer.write(done.stderr + done.stdout)
-        sys.exit("the program over step_op was not built")
-    return os.path.join(crate, "out", "step_bench")
+    files = {"src/main.rt": MAIN_RT, "src/rounds.rt": ROUNDS_RT, "specs/Lib.antt": "pub mod Turns\n", "specs/Turns.antt": SPECS}
+    files.update((os.path.join("proofs", name), text) for name, text in PROOFS.items())
+    return program_in(folder, "step_bench", ("cov_base", "int_ops", "stack_ops"), "int_ops stack_ops", files, input_of(0))
 
 
 def plain_program(folder):

@@ -13,3 +13,16 @@ mod StmtDepth
 mod Depth
 mod ListLaws
 mod ParamLaws
+mod UnitLaws
+mod ParseLaws
+mod ListLevels
+mod VarLaws
+mod DeclarationLaws
+mod RowLaws
+mod ItemLaws
+mod StmtLaws
+mod TwoLaws
+mod ConditionLaws
+mod LoopLaws
+mod ForLaws
+mod SwitchLaws

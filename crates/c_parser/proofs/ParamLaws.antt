@@ -134,13 +134,13 @@ has_base (UnitFront.named {base = base} b w e) = (base, b)
 has_base (UnitFront.nameless {base = base} b w e) = (base, b)
 
 -- no parameter begins without a type
-pub no_base : {text : List ℕ} {ts : List Token} → base_at ts ≡ None
-    → Refuses (λ p rest. OneParam text ts p rest) (λ p. 0) 0 (refusal.Refused fault.Syntax)
+pub no_base : {place : ℕ} {text : List ℕ} {ts : List Token} → base_at ts ≡ None
+    → Refuses (λ p rest. OneParam text ts p rest) (λ p. 0) 0 (refusal.Refused (fault.Syntax place))
 no_base n = Refuses.no_tree (λ p rest d. let b = has_base d in none-some b.0 (sym n ∙ b.1))
 
 -- nor without tokens
-pub no_token : {text : List ℕ} {ts : List Token} → ts ≡ []
-    → Refuses (λ p rest. OneParam text ts p rest) (λ p. 0) 0 (refusal.Refused fault.Syntax)
+pub no_token : {place : ℕ} {text : List ℕ} {ts : List Token} → ts ≡ []
+    → Refuses (λ p rest. OneParam text ts p rest) (λ p. 0) 0 (refusal.Refused (fault.Syntax place))
 no_token s = Refuses.no_tree (λ p rest d. let b = has_base d in none_named (ap base_at (sym s) ∙ b.1))
 
 -- what stands in the parentheses of a function

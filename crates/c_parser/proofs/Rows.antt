@@ -15,11 +15,12 @@ use Rattle.c_tree.specs.declared.expr.Base.TheVariants as base
 use Rattle.c_tree.specs.Expr.{Expr, Kind}
 use Rattle.c_tree.specs.Stmt.{Size, Init, Stmt, OtherStmt, Stmts}
 use Rattle.c_tree.specs.Tree.{Outer}
+use Rattle.c_parser.specs.declared.begins.StmtForm.TheVariants as form
 use Rattle.c_parser.specs.Words.{type_lists, base_at}
 use Rattle.c_parser.specs.ExprWords.{step_at, joint_at, question_at, change_at, comma_at, is_unary}
 use Rattle.c_parser.specs.ExprGrammar.{Rule, Front}
 use Rattle.c_parser.specs.VarGrammar.{VarRule, VarFront}
-use Rattle.c_parser.specs.StmtGrammar.{StmtForm, StmtRule, StmtFront}
+use Rattle.c_parser.specs.StmtGrammar.{StmtRule, StmtFront}
 use Rattle.c_parser.specs.Grammar.{all_named, UnitRule, UnitFront, Derives}
 use Rattle.c_parser.proofs.Moves.{moved}
 use Rattle.c_parser.proofs.ExprUnique.{one_front}
@@ -140,7 +141,7 @@ set_digit =
     (Front.commas-end refl)) refl
 
 -- the `else` goes to the inner `if`
-nearest_else : StmtFront (codes "if(1)if(0)r=1;else r=2;") (StmtRule.statement StmtForm.an_if) two_ifs
+nearest_else : StmtFront (codes "if(1)if(0)r=1;else r=2;") (StmtRule.statement form.If) two_ifs
     (Stmt.If (int_at 1 3) (Stmt.If (int_at 0 8) (sets (codes "r") 1 10) (OtherStmt.There (sets (codes "r") 2 19))) OtherStmt.Nothing) []
 nearest_else =
     StmtFront.if_ refl (whole (ups 0 10 (tight refl) (λ k. refl)) before_close) refl

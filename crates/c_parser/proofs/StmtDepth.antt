@@ -9,12 +9,12 @@ use Rattle.c_parser.proofs.VarDepth.{front_var_levels}
 
 -- the levels of what a rule gives
 abbrev pub stmt_result_levels : (r : StmtRule) → StmtResult r → ℕ
-stmt_result_levels (StmtRule.statement form) = stmt_levels
+stmt_result_levels (StmtRule.statement f) = stmt_levels
 stmt_result_levels (StmtRule.alternative b) = other_levels
 stmt_result_levels (StmtRule.first b) = other_levels
 stmt_result_levels (StmtRule.item b) = stmt_levels
 stmt_result_levels (StmtRule.items b) = stmts_levels
-stmt_result_levels (StmtRule.switch_item form) = item_levels
+stmt_result_levels (StmtRule.switch_item f) = item_levels
 stmt_result_levels (StmtRule.switch_items b) = items_levels
 
 value_levels : (e : Option Expr) → stmt_levels (value_of e) ≡ 1 + levels_if e

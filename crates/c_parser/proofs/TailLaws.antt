@@ -1,5 +1,5 @@
 -- What the parts of operators, choices, assignments and commas that a reader found, or was refused, say of the whole.
-use Rattle.std.proofs.Common.{◌≡◌, ℕ, ◌+◌, ◌-◌, ◌<◌, ◌≤◌, max, Bool, true, false, List, [], ◌∷◌, Option, Some, None, refl, sym, ap, ◌∙◌, subst, arith}
+use Rattle.std.proofs.Common.{◌≡◌, ℕ, ◌+◌, ◌-◌, ◌<◌, ◌≤◌, max, true, false, List, [], ◌∷◌, Option, Some, None, refl, sym, ap, ◌∙◌, subst, arith}
 use Rattle.int_ops.specs.declared.operators.BinOp.{BinOp}
 use Rattle.cov_base.specs.declared.refusal.Refusal.{Refusal}
 use Rattle.cov_base.specs.declared.refusal.Refusal.TheVariants as refusal
@@ -12,36 +12,62 @@ use Rattle.c_parser.specs.declared.fault.ParseFault.{ParseFault}
 use Rattle.c_parser.specs.declared.fault.ParseFault.TheVariants as fault
 use Rattle.c_parser.specs.ExprWords.{question_at, comma_at, joint_at, joined, change_at, is_unary, at}
 use Rattle.c_parser.specs.ExprGrammar.{Rule, Front}
-use Rattle.c_parser.specs.Reads.{Refuses, Closes}
+use Rattle.c_parser.specs.Reads.{Refuses, Closes, Sides, sides_levels, Tails, Commas, Leads}
 use Rattle.c_parser.proofs.Moves.{moved1, moved, rests_same}
 use Rattle.c_parser.proofs.ExprUnique.{one_front}
 use Rattle.c_parser.proofs.ReadLaws.{passes, grows, joint_levels, left_of_two, right_of_two}
 
--- operators
-pub tail_end : {text : List ℕ} {n : ℕ} {ts : List Token} {left : Expr} → joint_at (n + 1) ts ≡ None
-    → Front text (Rule.tail n left (joint_at (n + 1) ts)) ts left ts
-tail_end {text = text} {n = n} {ts = ts} {left = left} o = moved1 (λ k. Front text (Rule.tail n left k) ts left ts) o (Front.tail-end refl)
+-- steps
+pub leads_none : {A : Type 0} {P : A → List Token → Type 0} → Leads P P
+leads_none = record { forth = λ x rest p. p; back = λ x rest p. p }
 
-pub goes_front : {text : List ℕ} {n : ℕ} {ts behind more last : List Token} {t : Token} {j : Joint} {left right next tree : Expr}
-    → ts ≡ t ∷ behind → joint_at (n + 1) ts ≡ Some j → Front text (Rule.level n) behind right more → next ≡ at t (joined j left right)
-    → Front text (Rule.tail n next (joint_at (n + 1) more)) more tree last → Front text (Rule.tail n left (joint_at (n + 1) ts)) ts tree last
-goes_front {text = text} {n = n} {more = more} {last = last} {left = left} {tree = tree} s o d h e =
-    moved (λ k zs. Front text (Rule.tail n left k) zs tree last) (o, s)
-    (Front.goes d (subst (λ x. Front text (Rule.tail n x (joint_at (n + 1) more)) more tree last) h e))
+pub leads_next : {A : Type 0} {P Q R : A → List Token → Type 0} → Leads P Q → Leads Q R → Leads P R
+leads_next f g = record { forth = λ x rest r. f.forth x rest (g.forth x rest r); back = λ x rest p. g.back x rest (f.back x rest p) }
+
+pub leads_refused : {A : Type 0} {P Q : A → List Token → Type 0} {depth : A → ℕ} {room : ℕ} {e : Refusal ParseFault} → Leads P Q
+    → Refuses Q depth room e → Refuses P depth room e
+leads_refused f h = passes (λ y last p. (y, last, f.back y last p, λ l. l)) h
+
+-- operators
+pub tail_end : {text : List ℕ} {n : ℕ} {start ts : List Token} {first left : Expr} → Leads (Tails text n first start) (Tails text n left ts)
+    → joint_at (n + 1) ts ≡ None → Tails text n first start left ts
+tail_end {text = text} {n = n} {ts = ts} {left = left} f o =
+    f.forth left ts (moved1 (λ k. Front text (Rule.tail n left k) ts left ts) o (Front.tail-end refl))
+
+goes_front : {text : List ℕ} {n : ℕ} {behind more last : List Token} {t : Token} {j : Joint} {left right next tree : Expr}
+    → Front text (Rule.level n) behind right more → next ≡ at t (joined j left right) → Tails text n next more tree last
+    → Front text (Rule.tail n left (Some j)) (t ∷ behind) tree last
+goes_front {text = text} {n = n} {more = more} {last = last} {tree = tree} d h e =
+    Front.goes d (subst (λ x. Front text (Rule.tail n x (joint_at (n + 1) more)) more tree last) h e)
+
+goes_back : {text : List ℕ} {n : ℕ} {behind more last : List Token} {t : Token} {j : Joint} {left right next tree : Expr}
+    → Front text (Rule.level n) behind right more → next ≡ at t (joined j left right)
+    → Front text (Rule.tail n left (Some j)) (t ∷ behind) tree last → Tails text n next more tree last
+goes_back {text = text} {n = n} {last = last} {t = t} {j = j} {left = left} {tree = tree} d h (Front.goes d' e) =
+    let g = one_front d d' in
+    moved (λ x zs. Front text (Rule.tail n x (joint_at (n + 1) zs)) zs tree last) (h ∙ ap (λ y. at t (joined j left y)) g.0, g.1) e
+
+pub goes : {text : List ℕ} {n : ℕ} {ts behind more : List Token} {t : Token} {j : Joint} {left right next : Expr} → ts ≡ t ∷ behind
+    → joint_at (n + 1) ts ≡ Some j → Front text (Rule.level n) behind right more → next ≡ at t (joined j left right)
+    → Leads (Tails text n left ts) (Tails text n next more)
+goes {text = text} {n = n} {left = left} s o d h = record {
+  forth = λ x rest q. moved (λ k zs. Front text (Rule.tail n left k) zs x rest) (o, s) (goes_front d h q);
+  back = λ x rest q. goes_back d h (moved (λ k zs. Front text (Rule.tail n left k) zs x rest) (sym o, sym s) q);
+}
 
 joint_back : {text : List ℕ} {n : ℕ} {ts last : List Token} {j : Joint} {left tree : Expr} (room : ℕ) → room ≤ levels left
     → Front text (Rule.tail n left (Some j)) ts tree last → room < levels tree
 joint_back room l (Front.goes {t = t} {j = j} {left = a} {right = b} d e) = omega (arith, l, grows e, joint_levels t j a b, left_of_two (levels a) (levels b))
 
-pub joint_too_deep : {text : List ℕ} {n : ℕ} {ts : List Token} {j : Joint} {left : Expr} {room : ℕ} → joint_at (n + 1) ts ≡ Some j → room ≤ levels left
-    → Refuses (Front text (Rule.tail n left (joint_at (n + 1) ts)) ts) levels room (refusal.Refused fault.TooDeep)
-joint_too_deep {text = text} {n = n} {ts = ts} {left = left} {room = room} o l =
-    moved1 (λ k. Refuses (Front text (Rule.tail n left k) ts) levels room (refusal.Refused fault.TooDeep)) o (Refuses.too_deep (λ x rest q. joint_back room l q))
+pub joint_too_deep : {place : ℕ} {text : List ℕ} {n : ℕ} {ts : List Token} {j : Joint} {left : Expr} {room : ℕ} → joint_at (n + 1) ts ≡ Some j → room ≤ levels left
+    → Refuses (Front text (Rule.tail n left (joint_at (n + 1) ts)) ts) levels room (refusal.Refused (fault.TooDeep place))
+joint_too_deep {place = place} {text = text} {n = n} {ts = ts} {left = left} {room = room} o l =
+    moved1 (λ k. Refuses (Front text (Rule.tail n left k) ts) levels room (refusal.Refused (fault.TooDeep place))) o (Refuses.too_deep (λ x rest q. joint_back room l q))
 
-pub no_joint : {text : List ℕ} {n : ℕ} {ts : List Token} {j : Joint} {left : Expr} {room : ℕ} → ts ≡ [] → joint_at (n + 1) ts ≡ Some j
-    → Refuses (Front text (Rule.tail n left (joint_at (n + 1) ts)) ts) levels room (refusal.Refused fault.Syntax)
-no_joint {text = text} {n = n} {left = left} {room = room} s o =
-    moved (λ k zs. Refuses (Front text (Rule.tail n left k) zs) levels room (refusal.Refused fault.Syntax)) (o, s) (Refuses.no_tree (λ x rest q. alone q))
+pub no_joint : {place : ℕ} {text : List ℕ} {n : ℕ} {ts : List Token} {j : Joint} {left : Expr} {room : ℕ} → ts ≡ [] → joint_at (n + 1) ts ≡ Some j
+    → Refuses (Front text (Rule.tail n left (joint_at (n + 1) ts)) ts) levels room (refusal.Refused (fault.Syntax place))
+no_joint {place = place} {text = text} {n = n} {left = left} {room = room} s o =
+    moved (λ k zs. Refuses (Front text (Rule.tail n left k) zs) levels room (refusal.Refused (fault.Syntax place))) (o, s) (Refuses.no_tree (λ x rest q. alone q))
   where
     alone : {text : List ℕ} {n : ℕ} {last : List Token} {j : Joint} {left tree : Expr} → Front text (Rule.tail n left (Some j)) [] tree last → ⊥
     alone d = elim d [ ]
@@ -58,31 +84,77 @@ pub right_refused : {text : List ℕ} {n : ℕ} {ts behind : List Token} {t : To
 right_refused {text = text} {n = n} {left = left} {room = room} {e = e} s o h =
     moved (λ k zs. Refuses (Front text (Rule.tail n left k) zs) levels room e) (o, s) (passes (λ y last q. right_back room q) h)
 
-goes_back : {text : List ℕ} {n : ℕ} {behind more last : List Token} {t : Token} {j : Joint} {left right next tree : Expr} (room : ℕ)
-    → Front text (Rule.level n) behind right more → next ≡ at t (joined j left right)
-    → Front text (Rule.tail n left (Some j)) (t ∷ behind) tree last
-    → (x : Expr) × (rest : List Token) × Front text (Rule.tail n next (joint_at (n + 1) more)) more x rest × (room < levels x → room < levels tree)
-goes_back {text = text} {n = n} {last = last} {t = t} {j = j} {left = left} {tree = tree} room d h (Front.goes d' e) =
-    let g = one_front d d' in
-    (tree, last, moved (λ x zs. Front text (Rule.tail n x (joint_at (n + 1) zs)) zs tree last) (h ∙ ap (λ y. at t (joined j left y)) g.0, g.1) e, λ l. l)
+-- both sides of a choice
+pub sides_front : {text : List ℕ} {ts middle rest : List Token} {a b : Expr} → Closes text mark.Colon ts a middle
+    → Front text Rule.conditional middle b rest → Sides text ts (a, b) rest
+sides_front {middle = middle} c f = record { middle = middle; first = c; second = f }
 
-pub goes_refused : {text : List ℕ} {n : ℕ} {ts behind more : List Token} {t : Token} {j : Joint} {left right next : Expr} {room : ℕ}
-    {e : Refusal ParseFault} → ts ≡ t ∷ behind → joint_at (n + 1) ts ≡ Some j → Front text (Rule.level n) behind right more
-    → next ≡ at t (joined j left right) → Refuses (Front text (Rule.tail n next (joint_at (n + 1) more)) more) levels room e
-    → Refuses (Front text (Rule.tail n left (joint_at (n + 1) ts)) ts) levels room e
-goes_refused {text = text} {n = n} {left = left} {room = room} {e = e} s o d n' h =
-    moved (λ k zs. Refuses (Front text (Rule.tail n left k) zs) levels room e) (o, s) (passes (λ y last q. goes_back room d n' q) h)
+first_back : {text : List ℕ} {ts last : List Token} {p : Expr × Expr} (room : ℕ) → Sides text ts p last
+    → (x : Expr) × (rest : List Token) × Closes text mark.Colon ts x rest × (room < levels x → room < sides_levels p)
+first_back {p = p} room s = (p.0, s.middle, s.first, λ l. omega (arith, l, left_of_two (levels p.0) (levels p.1)))
+
+pub first_refused : {text : List ℕ} {ts : List Token} {room : ℕ} {e : Refusal ParseFault}
+    → Refuses (Closes text mark.Colon ts) levels room e → Refuses (Sides text ts) sides_levels room e
+first_refused {room = room} h = passes (λ y last q. first_back room q) h
+
+second_back : {text : List ℕ} {ts middle last : List Token} {a : Expr} {p : Expr × Expr} (room : ℕ) → Closes text mark.Colon ts a middle
+    → Sides text ts p last
+    → (x : Expr) × (rest : List Token) × Front text Rule.conditional middle x rest × (room < levels x → room < sides_levels p)
+second_back {text = text} {last = last} {p = p} room c s = (
+  p.1,
+  last,
+  moved1 (λ zs. Front text Rule.conditional zs p.1 last) (rests_same (one_front c.front s.first.front).1) s.second,
+  λ l. omega (arith, l, right_of_two (levels p.0) (levels p.1)),
+)
+
+pub second_refused : {text : List ℕ} {ts middle : List Token} {a : Expr} {room : ℕ} {e : Refusal ParseFault} → Closes text mark.Colon ts a middle
+    → Refuses (Front text Rule.conditional middle) levels room e → Refuses (Sides text ts) sides_levels room e
+second_refused {room = room} c h = passes (λ y last q. second_back room c q) h
 
 -- choices
-pub choice_end : {text : List ℕ} {ts more : List Token} {e : Expr} → Front text (Rule.level 10) ts e more → question_at more ≡ false
-    → Front text Rule.conditional ts e more
-choice_end {text = text} {more = more} {e = e} d o = Front.conditional d (moved1 (λ k. Front text (Rule.choice e k) more e more) o (Front.no_choice refl))
+pub choice_end : {text : List ℕ} {ts : List Token} {left : Expr} → question_at ts ≡ false → Front text (Rule.choice left (question_at ts)) ts left ts
+choice_end {text = text} {ts = ts} {left = left} o = moved1 (λ k. Front text (Rule.choice left k) ts left ts) o (Front.no_choice refl)
 
-pub choice_front : {text : List ℕ} {ts more behind middle rest : List Token} {t : Token} {e a b tree : Expr} → Front text (Rule.level 10) ts e more
-    → question_at more ≡ true → more ≡ t ∷ behind → Closes text mark.Colon behind a middle → Front text Rule.conditional middle b rest
-    → tree ≡ at t (Kind.Choose e a b) → Front text Rule.conditional ts tree rest
-choice_front {text = text} {rest = rest} {e = e} {tree = tree} d o s c f h =
-    Front.conditional d (moved (λ k zs. Front text (Rule.choice e k) zs tree rest) (o, s) (Front.choice c.1 c.2 f h))
+pub choice_front : {text : List ℕ} {ts behind rest : List Token} {t : Token} {left a b tree : Expr} → ts ≡ t ∷ behind → question_at ts ≡ true
+    → Sides text behind (a, b) rest → tree ≡ at t (Kind.Choose left a b) → Front text (Rule.choice left (question_at ts)) ts tree rest
+choice_front {text = text} {rest = rest} {left = left} {tree = tree} s o c h =
+    moved (λ k zs. Front text (Rule.choice left k) zs tree rest) (o, s) (Front.choice c.first.front c.first.is c.second h)
+
+choice_deep : {text : List ℕ} {ts last : List Token} {e tree : Expr} (room : ℕ) → room ≤ levels e → Front text (Rule.choice e true) ts tree last → room < levels tree
+choice_deep room l (Front.choice {e = c} {a = a} {b = b} d m f e) = omega (arith, l, ap levels e, left_of_two (levels c) (max (levels a) (levels b)))
+
+pub choice_too_deep : {place : ℕ} {text : List ℕ} {ts : List Token} {left : Expr} {room : ℕ} → question_at ts ≡ true → room ≤ levels left
+    → Refuses (Front text (Rule.choice left (question_at ts)) ts) levels room (refusal.Refused (fault.TooDeep place))
+choice_too_deep {place = place} {text = text} {ts = ts} {left = left} {room = room} o l =
+    moved1 (λ k. Refuses (Front text (Rule.choice left k) ts) levels room (refusal.Refused (fault.TooDeep place))) o (Refuses.too_deep (λ x rest q. choice_deep room l q))
+
+choice_alone : {text : List ℕ} {last : List Token} {e tree : Expr} → Front text (Rule.choice e true) [] tree last → ⊥
+choice_alone d = elim d [ ]
+
+pub no_question : {place : ℕ} {text : List ℕ} {ts : List Token} {left : Expr} {room : ℕ} → ts ≡ [] → question_at ts ≡ true
+    → Refuses (Front text (Rule.choice left (question_at ts)) ts) levels room (refusal.Refused (fault.Syntax place))
+no_question {place = place} {text = text} {left = left} {room = room} s o =
+    moved (λ k zs. Refuses (Front text (Rule.choice left k) zs) levels room (refusal.Refused (fault.Syntax place))) (o, s) (Refuses.no_tree (λ x rest q. choice_alone q))
+
+sides_back : {text : List ℕ} {behind last : List Token} {t : Token} {e tree : Expr} (room : ℕ) → Front text (Rule.choice e true) (t ∷ behind) tree last
+    → (p : Expr × Expr) × (rest : List Token) × Sides text behind p rest × (room - 1 < sides_levels p → room < levels tree)
+sides_back {last = last} room (Front.choice {colon = c} {more = m} {e = u} {a = a} {b = b} d k f e) = (
+  (a, b),
+  last,
+  record { middle = m; first = record { close = c; front = d; is = k }; second = f },
+  λ l. omega (arith, l, ap levels e, right_of_two (levels u) (max (levels a) (levels b))),
+)
+
+pub sides_refused : {text : List ℕ} {ts behind : List Token} {t : Token} {left : Expr} {room : ℕ} {e : Refusal ParseFault} → ts ≡ t ∷ behind
+    → question_at ts ≡ true → Refuses (Sides text behind) sides_levels (room - 1) e
+    → Refuses (Front text (Rule.choice left (question_at ts)) ts) levels room e
+sides_refused {text = text} {left = left} {room = room} {e = e} s o h =
+    moved (λ k zs. Refuses (Front text (Rule.choice left k) zs) levels room e) (o, s) (passes (λ y last q. sides_back room q) h)
+
+-- a conditional expression
+pub conditional_front : {text : List ℕ} {ts more rest : List Token} {e tree : Expr} → Front text (Rule.level 10) ts e more
+    → Front text (Rule.choice e (question_at more)) more tree rest → Front text Rule.conditional ts tree rest
+conditional_front d f = Front.conditional d f
 
 test_back : {text : List ℕ} {ts last : List Token} {tree : Expr} (room : ℕ) → Front text Rule.conditional ts tree last
     → (x : Expr) × (rest : List Token) × Front text (Rule.level 10) ts x rest × (room < levels x → room < levels tree)
@@ -92,61 +164,69 @@ pub test_refused : {text : List ℕ} {ts : List Token} {room : ℕ} {e : Refusal
     → Refuses (Front text (Rule.level 10) ts) levels room e → Refuses (Front text Rule.conditional ts) levels room e
 test_refused {room = room} h = passes (λ y last q. test_back room q) h
 
--- the choice behind the test that was found
-choice_at : {text : List ℕ} {ts more zs last : List Token} {e tree : Expr} {b : Bool} → Front text (Rule.level 10) ts e more → question_at more ≡ b
-    → more ≡ zs → Front text Rule.conditional ts tree last → Front text (Rule.choice e b) zs tree last
-choice_at {text = text} {last = last} {e = e} {tree = tree} d o s (Front.conditional d' f) =
-    moved (λ k zs. Front text (Rule.choice e k) zs tree last) (sym o, sym s) (moved (λ x zs. Front text (Rule.choice x (question_at zs)) zs tree last) (one_front d d') f)
+choice_back : {text : List ℕ} {ts more last : List Token} {found tree : Expr} (room : ℕ) → Front text (Rule.level 10) ts found more
+    → Front text Rule.conditional ts tree last
+    → (x : Expr) × (rest : List Token) × Front text (Rule.choice found (question_at more)) more x rest × (room < levels x → room < levels tree)
+choice_back {text = text} {last = last} {tree = tree} room d (Front.conditional d' e) =
+    (tree, last, moved (λ x zs. Front text (Rule.choice x (question_at zs)) zs tree last) (one_front d d') e, λ l. l)
 
-choice_deep : {text : List ℕ} {ts last : List Token} {e tree : Expr} (room : ℕ) → room ≤ levels e → Front text (Rule.choice e true) ts tree last → room < levels tree
-choice_deep room l (Front.choice {e = c} {a = a} {b = b} d m f e) = omega (arith, l, ap levels e, left_of_two (levels c) (max (levels a) (levels b)))
+pub choice_refused : {text : List ℕ} {ts more : List Token} {found : Expr} {room : ℕ} {e : Refusal ParseFault} → Front text (Rule.level 10) ts found more
+    → Refuses (Front text (Rule.choice found (question_at more)) more) levels room e → Refuses (Front text Rule.conditional ts) levels room e
+choice_refused {room = room} d h = passes (λ y last q. choice_back room d q) h
 
-pub choice_too_deep : {text : List ℕ} {ts more : List Token} {e : Expr} {room : ℕ} → Front text (Rule.level 10) ts e more → question_at more ≡ true
-    → room ≤ levels e → Refuses (Front text Rule.conditional ts) levels room (refusal.Refused fault.TooDeep)
-choice_too_deep {room = room} d o l = Refuses.too_deep (λ x rest q. choice_deep room l (choice_at d o refl q))
+-- what an assignment operator joins
+pub not_assigned : {text : List ℕ} {ts : List Token} {left : Expr} → change_at ts ≡ None → Front text (Rule.assigned left (change_at ts)) ts left ts
+not_assigned {text = text} {ts = ts} {left = left} o = moved1 (λ k. Front text (Rule.assigned left k) ts left ts) o (Front.not_assigned refl)
 
-choice_alone : {text : List ℕ} {last : List Token} {e tree : Expr} → Front text (Rule.choice e true) [] tree last → ⊥
-choice_alone d = elim d [ ]
+pub assigned_front : {text : List ℕ} {ts behind rest : List Token} {t : Token} {o : Option BinOp} {left right tree : Expr} → ts ≡ t ∷ behind
+    → change_at ts ≡ Some o → is_unary left ≡ true → Front text Rule.assignment behind right rest → tree ≡ at t (Kind.Assign o left right)
+    → Front text (Rule.assigned left (change_at ts)) ts tree rest
+assigned_front {text = text} {rest = rest} {left = left} {tree = tree} s o u f h =
+    moved (λ k zs. Front text (Rule.assigned left k) zs tree rest) (o, s) (Front.assigned u f h)
 
-pub no_question : {text : List ℕ} {ts more : List Token} {e : Expr} {room : ℕ} → Front text (Rule.level 10) ts e more → question_at more ≡ true
-    → more ≡ [] → Refuses (Front text Rule.conditional ts) levels room (refusal.Refused fault.Syntax)
-no_question d o s = Refuses.no_tree (λ x rest q. choice_alone (choice_at d o s q))
+assigned_deep : {text : List ℕ} {ts last : List Token} {e tree : Expr} {o : Option BinOp} (room : ℕ) → room ≤ levels e
+    → Front text (Rule.assigned e (Some o)) ts tree last → room < levels tree
+assigned_deep room l (Front.assigned {left = a} {right = b} u d e) = omega (arith, l, ap levels e, left_of_two (levels a) (levels b))
 
-yes_back : {text : List ℕ} {behind last : List Token} {t : Token} {e tree : Expr} (room : ℕ) → Front text (Rule.choice e true) (t ∷ behind) tree last
-    → (x : Expr) × (rest : List Token) × Closes text mark.Colon behind x rest × (room - 1 < levels x → room < levels tree)
-yes_back room (Front.choice {colon = c} {more = m} {e = u} {a = a} {b = b} d k f e) =
-    (a, m, (c, d, k), λ l. omega (arith, l, ap levels e, right_of_two (levels u) (max (levels a) (levels b)), left_of_two (levels a) (levels b)))
+pub assigned_too_deep : {place : ℕ} {text : List ℕ} {ts : List Token} {left : Expr} {o : Option BinOp} {room : ℕ} → change_at ts ≡ Some o
+    → room ≤ levels left → Refuses (Front text (Rule.assigned left (change_at ts)) ts) levels room (refusal.Refused (fault.TooDeep place))
+assigned_too_deep {place = place} {text = text} {ts = ts} {left = left} {room = room} o l =
+    moved1 (λ k. Refuses (Front text (Rule.assigned left k) ts) levels room (refusal.Refused (fault.TooDeep place))) o (Refuses.too_deep (λ x rest q. assigned_deep room l q))
 
-pub yes_refused : {text : List ℕ} {ts more behind : List Token} {t : Token} {u : Expr} {room : ℕ} {e : Refusal ParseFault}
-    → Front text (Rule.level 10) ts u more → question_at more ≡ true → more ≡ t ∷ behind
-    → Refuses (Closes text mark.Colon behind) levels (room - 1) e → Refuses (Front text Rule.conditional ts) levels room e
-yes_refused {room = room} d o s h = passes (λ y last q. yes_back room (choice_at d o s q)) h
+true_not_false : true ≡ false → ⊥
+true_not_false e = (let h : ⊥ = cc in h)
 
-no_back : {text : List ℕ} {behind middle last : List Token} {t : Token} {e a tree : Expr} (room : ℕ) → Closes text mark.Colon behind a middle
-    → Front text (Rule.choice e true) (t ∷ behind) tree last
-    → (x : Expr) × (rest : List Token) × Front text Rule.conditional middle x rest × (room - 1 < levels x → room < levels tree)
-no_back {text = text} {last = last} room c (Front.choice {e = u} {a = a} {b = b} d k f e) = (
-  b,
-  last,
-  moved1 (λ zs. Front text Rule.conditional zs b last) (rests_same (one_front c.1 d).1) f,
-  λ l. omega (arith, l, ap levels e, right_of_two (levels u) (max (levels a) (levels b)), right_of_two (levels a) (levels b)),
-)
+no_target : {text : List ℕ} {ts last : List Token} {e tree : Expr} {o : Option BinOp} → is_unary e ≡ false → Front text (Rule.assigned e (Some o)) ts tree last → ⊥
+no_target n (Front.assigned u d e) = true_not_false (sym u ∙ n)
 
-pub no_refused : {text : List ℕ} {ts more behind middle : List Token} {t : Token} {u a : Expr} {room : ℕ} {e : Refusal ParseFault}
-    → Front text (Rule.level 10) ts u more → question_at more ≡ true → more ≡ t ∷ behind → Closes text mark.Colon behind a middle
-    → Refuses (Front text Rule.conditional middle) levels (room - 1) e → Refuses (Front text Rule.conditional ts) levels room e
-no_refused {room = room} d o s c h = passes (λ y last q. no_back room c (choice_at d o s q)) h
+pub not_unary : {place : ℕ} {text : List ℕ} {ts : List Token} {left : Expr} {o : Option BinOp} {room : ℕ} → change_at ts ≡ Some o
+    → is_unary left ≡ false → Refuses (Front text (Rule.assigned left (change_at ts)) ts) levels room (refusal.Refused (fault.Syntax place))
+not_unary {place = place} {text = text} {ts = ts} {left = left} {room = room} o n =
+    moved1 (λ k. Refuses (Front text (Rule.assigned left k) ts) levels room (refusal.Refused (fault.Syntax place))) o (Refuses.no_tree (λ x rest q. no_target n q))
+
+assigned_alone : {text : List ℕ} {last : List Token} {e tree : Expr} {o : Option BinOp} → Front text (Rule.assigned e (Some o)) [] tree last → ⊥
+assigned_alone d = elim d [ ]
+
+pub no_change : {place : ℕ} {text : List ℕ} {ts : List Token} {left : Expr} {o : Option BinOp} {room : ℕ} → ts ≡ [] → change_at ts ≡ Some o
+    → Refuses (Front text (Rule.assigned left (change_at ts)) ts) levels room (refusal.Refused (fault.Syntax place))
+no_change {place = place} {text = text} {left = left} {room = room} s o =
+    moved (λ k zs. Refuses (Front text (Rule.assigned left k) zs) levels room (refusal.Refused (fault.Syntax place))) (o, s) (Refuses.no_tree (λ x rest q. assigned_alone q))
+
+value_back : {text : List ℕ} {behind last : List Token} {t : Token} {e tree : Expr} {o : Option BinOp} (room : ℕ)
+    → Front text (Rule.assigned e (Some o)) (t ∷ behind) tree last
+    → (x : Expr) × (rest : List Token) × Front text Rule.assignment behind x rest × (room - 1 < levels x → room < levels tree)
+value_back {last = last} room (Front.assigned {left = a} {right = b} u d e) = (b, last, d, λ l. omega (arith, l, ap levels e, right_of_two (levels a) (levels b)))
+
+pub value_refused : {text : List ℕ} {ts behind : List Token} {t : Token} {left : Expr} {o : Option BinOp} {room : ℕ} {e : Refusal ParseFault}
+    → ts ≡ t ∷ behind → change_at ts ≡ Some o → Refuses (Front text Rule.assignment behind) levels (room - 1) e
+    → Refuses (Front text (Rule.assigned left (change_at ts)) ts) levels room e
+value_refused {text = text} {left = left} {room = room} {e = e} s o h =
+    moved (λ k zs. Refuses (Front text (Rule.assigned left k) zs) levels room e) (o, s) (passes (λ y last q. value_back room q) h)
 
 -- assignments
-pub not_assigned : {text : List ℕ} {ts more : List Token} {e : Expr} → Front text Rule.conditional ts e more → change_at more ≡ None
-    → Front text Rule.assignment ts e more
-not_assigned {text = text} {more = more} {e = e} d o = Front.assignment d (moved1 (λ k. Front text (Rule.assigned e k) more e more) o (Front.not_assigned refl))
-
-pub assigned_front : {text : List ℕ} {ts more behind rest : List Token} {t : Token} {o : Option BinOp} {left right tree : Expr}
-    → Front text Rule.conditional ts left more → change_at more ≡ Some o → is_unary left ≡ true → more ≡ t ∷ behind
-    → Front text Rule.assignment behind right rest → tree ≡ at t (Kind.Assign o left right) → Front text Rule.assignment ts tree rest
-assigned_front {text = text} {rest = rest} {left = left} {tree = tree} d o u s f h =
-    Front.assignment d (moved (λ k zs. Front text (Rule.assigned left k) zs tree rest) (o, s) (Front.assigned u f h))
+pub assignment_front : {text : List ℕ} {ts more rest : List Token} {e tree : Expr} → Front text Rule.conditional ts e more
+    → Front text (Rule.assigned e (change_at more)) more tree rest → Front text Rule.assignment ts tree rest
+assignment_front d f = Front.assignment d f
 
 target_back : {text : List ℕ} {ts last : List Token} {tree : Expr} (room : ℕ) → Front text Rule.assignment ts tree last
     → (x : Expr) × (rest : List Token) × Front text Rule.conditional ts x rest × (room < levels x → room < levels tree)
@@ -156,73 +236,54 @@ pub target_refused : {text : List ℕ} {ts : List Token} {room : ℕ} {e : Refus
     → Refuses (Front text Rule.conditional ts) levels room e → Refuses (Front text Rule.assignment ts) levels room e
 target_refused {room = room} h = passes (λ y last q. target_back room q) h
 
--- the assignment behind the target that was found
-assigned_at : {text : List ℕ} {ts more zs last : List Token} {e tree : Expr} {o : Option (Option BinOp)} → Front text Rule.conditional ts e more
-    → change_at more ≡ o → more ≡ zs → Front text Rule.assignment ts tree last → Front text (Rule.assigned e o) zs tree last
-assigned_at {text = text} {last = last} {e = e} {tree = tree} d o s (Front.assignment d' f) =
-    moved (λ k zs. Front text (Rule.assigned e k) zs tree last) (sym o, sym s) (moved (λ x zs. Front text (Rule.assigned x (change_at zs)) zs tree last) (one_front d d') f)
+assigned_back : {text : List ℕ} {ts more last : List Token} {found tree : Expr} (room : ℕ) → Front text Rule.conditional ts found more
+    → Front text Rule.assignment ts tree last
+    → (x : Expr) × (rest : List Token) × Front text (Rule.assigned found (change_at more)) more x rest × (room < levels x → room < levels tree)
+assigned_back {text = text} {last = last} {tree = tree} room d (Front.assignment d' e) =
+    (tree, last, moved (λ x zs. Front text (Rule.assigned x (change_at zs)) zs tree last) (one_front d d') e, λ l. l)
 
-assigned_deep : {text : List ℕ} {ts last : List Token} {e tree : Expr} {o : Option BinOp} (room : ℕ) → room ≤ levels e
-    → Front text (Rule.assigned e (Some o)) ts tree last → room < levels tree
-assigned_deep room l (Front.assigned {left = a} {right = b} u d e) = omega (arith, l, ap levels e, left_of_two (levels a) (levels b))
-
-pub assigned_too_deep : {text : List ℕ} {ts more : List Token} {e : Expr} {o : Option BinOp} {room : ℕ} → Front text Rule.conditional ts e more
-    → change_at more ≡ Some o → room ≤ levels e → Refuses (Front text Rule.assignment ts) levels room (refusal.Refused fault.TooDeep)
-assigned_too_deep {room = room} d o l = Refuses.too_deep (λ x rest q. assigned_deep room l (assigned_at d o refl q))
-
-true_not_false : true ≡ false → ⊥
-true_not_false e = (let h : ⊥ = cc in h)
-
-no_target : {text : List ℕ} {ts last : List Token} {e tree : Expr} {o : Option BinOp} → is_unary e ≡ false → Front text (Rule.assigned e (Some o)) ts tree last → ⊥
-no_target n (Front.assigned u d e) = true_not_false (sym u ∙ n)
-
-pub not_unary : {text : List ℕ} {ts more : List Token} {e : Expr} {o : Option BinOp} {room : ℕ} → Front text Rule.conditional ts e more
-    → change_at more ≡ Some o → is_unary e ≡ false → Refuses (Front text Rule.assignment ts) levels room (refusal.Refused fault.Syntax)
-not_unary d o n = Refuses.no_tree (λ x rest q. no_target n (assigned_at d o refl q))
-
-assigned_alone : {text : List ℕ} {last : List Token} {e tree : Expr} {o : Option BinOp} → Front text (Rule.assigned e (Some o)) [] tree last → ⊥
-assigned_alone d = elim d [ ]
-
-pub no_change : {text : List ℕ} {ts more : List Token} {e : Expr} {o : Option BinOp} {room : ℕ} → Front text Rule.conditional ts e more
-    → change_at more ≡ Some o → more ≡ [] → Refuses (Front text Rule.assignment ts) levels room (refusal.Refused fault.Syntax)
-no_change d o s = Refuses.no_tree (λ x rest q. assigned_alone (assigned_at d o s q))
-
-value_back : {text : List ℕ} {behind last : List Token} {t : Token} {e tree : Expr} {o : Option BinOp} (room : ℕ)
-    → Front text (Rule.assigned e (Some o)) (t ∷ behind) tree last
-    → (x : Expr) × (rest : List Token) × Front text Rule.assignment behind x rest × (room - 1 < levels x → room < levels tree)
-value_back {last = last} room (Front.assigned {left = a} {right = b} u d e) = (b, last, d, λ l. omega (arith, l, ap levels e, right_of_two (levels a) (levels b)))
-
-pub value_refused : {text : List ℕ} {ts more behind : List Token} {t : Token} {left : Expr} {o : Option BinOp} {room : ℕ} {e : Refusal ParseFault}
-    → Front text Rule.conditional ts left more → change_at more ≡ Some o → more ≡ t ∷ behind
-    → Refuses (Front text Rule.assignment behind) levels (room - 1) e → Refuses (Front text Rule.assignment ts) levels room e
-value_refused {room = room} d o s h = passes (λ y last q. value_back room (assigned_at d o s q)) h
+pub assigned_refused : {text : List ℕ} {ts more : List Token} {found : Expr} {room : ℕ} {e : Refusal ParseFault} → Front text Rule.conditional ts found more
+    → Refuses (Front text (Rule.assigned found (change_at more)) more) levels room e → Refuses (Front text Rule.assignment ts) levels room e
+assigned_refused {room = room} d h = passes (λ y last q. assigned_back room d q) h
 
 -- commas
-pub commas_end : {text : List ℕ} {ts : List Token} {left : Expr} → comma_at ts ≡ false → Front text (Rule.commas left (comma_at ts)) ts left ts
-commas_end {text = text} {ts = ts} {left = left} o = moved1 (λ k. Front text (Rule.commas left k) ts left ts) o (Front.commas-end refl)
+pub commas_end : {text : List ℕ} {start ts : List Token} {first left : Expr} → Leads (Commas text first start) (Commas text left ts)
+    → comma_at ts ≡ false → Commas text first start left ts
+commas_end {text = text} {ts = ts} {left = left} f o = f.forth left ts (moved1 (λ k. Front text (Rule.commas left k) ts left ts) o (Front.commas-end refl))
 
-pub comma_front : {text : List ℕ} {ts behind more last : List Token} {t : Token} {left right next tree : Expr} → ts ≡ t ∷ behind → comma_at ts ≡ true
-    → Front text Rule.assignment behind right more → next ≡ at t (Kind.Comma left right)
-    → Front text (Rule.commas next (comma_at more)) more tree last → Front text (Rule.commas left (comma_at ts)) ts tree last
-comma_front {text = text} {more = more} {last = last} {left = left} {tree = tree} s o d h e =
-    moved (λ k zs. Front text (Rule.commas left k) zs tree last) (o, s)
-    (Front.comma d (subst (λ x. Front text (Rule.commas x (comma_at more)) more tree last) h e))
+comma_front : {text : List ℕ} {behind more last : List Token} {t : Token} {left right next tree : Expr} → Front text Rule.assignment behind right more
+    → next ≡ at t (Kind.Comma left right) → Commas text next more tree last → Front text (Rule.commas left true) (t ∷ behind) tree last
+comma_front {text = text} {more = more} {last = last} {tree = tree} d h e =
+    Front.comma d (subst (λ x. Front text (Rule.commas x (comma_at more)) more tree last) h e)
+
+comma_back : {text : List ℕ} {behind more last : List Token} {t : Token} {left right next tree : Expr} → Front text Rule.assignment behind right more
+    → next ≡ at t (Kind.Comma left right) → Front text (Rule.commas left true) (t ∷ behind) tree last → Commas text next more tree last
+comma_back {text = text} {last = last} {t = t} {left = left} {tree = tree} d h (Front.comma d' e) =
+    let g = one_front d d' in
+    moved (λ x zs. Front text (Rule.commas x (comma_at zs)) zs tree last) (h ∙ ap (λ y. at t (Kind.Comma left y)) g.0, g.1) e
+
+pub one_comma : {text : List ℕ} {ts behind more : List Token} {t : Token} {left right next : Expr} → ts ≡ t ∷ behind → comma_at ts ≡ true
+    → Front text Rule.assignment behind right more → next ≡ at t (Kind.Comma left right) → Leads (Commas text left ts) (Commas text next more)
+one_comma {text = text} {left = left} s o d h = record {
+  forth = λ x rest q. moved (λ k zs. Front text (Rule.commas left k) zs x rest) (o, s) (comma_front d h q);
+  back = λ x rest q. comma_back d h (moved (λ k zs. Front text (Rule.commas left k) zs x rest) (sym o, sym s) q);
+}
 
 comma_deep : {text : List ℕ} {ts last : List Token} {left tree : Expr} (room : ℕ) → room ≤ levels left → Front text (Rule.commas left true) ts tree last → room < levels tree
 comma_deep room l (Front.comma {left = a} {right = b} d e) = omega (arith, l, grows e, left_of_two (levels a) (levels b))
 
-pub comma_too_deep : {text : List ℕ} {ts : List Token} {left : Expr} {room : ℕ} → comma_at ts ≡ true → room ≤ levels left
-    → Refuses (Front text (Rule.commas left (comma_at ts)) ts) levels room (refusal.Refused fault.TooDeep)
-comma_too_deep {text = text} {ts = ts} {left = left} {room = room} o l =
-    moved1 (λ k. Refuses (Front text (Rule.commas left k) ts) levels room (refusal.Refused fault.TooDeep)) o (Refuses.too_deep (λ x rest q. comma_deep room l q))
+pub comma_too_deep : {place : ℕ} {text : List ℕ} {ts : List Token} {left : Expr} {room : ℕ} → comma_at ts ≡ true → room ≤ levels left
+    → Refuses (Front text (Rule.commas left (comma_at ts)) ts) levels room (refusal.Refused (fault.TooDeep place))
+comma_too_deep {place = place} {text = text} {ts = ts} {left = left} {room = room} o l =
+    moved1 (λ k. Refuses (Front text (Rule.commas left k) ts) levels room (refusal.Refused (fault.TooDeep place))) o (Refuses.too_deep (λ x rest q. comma_deep room l q))
 
 comma_alone : {text : List ℕ} {last : List Token} {left tree : Expr} → Front text (Rule.commas left true) [] tree last → ⊥
 comma_alone d = elim d [ ]
 
-pub no_comma : {text : List ℕ} {ts : List Token} {left : Expr} {room : ℕ} → ts ≡ [] → comma_at ts ≡ true
-    → Refuses (Front text (Rule.commas left (comma_at ts)) ts) levels room (refusal.Refused fault.Syntax)
-no_comma {text = text} {left = left} {room = room} s o =
-    moved (λ k zs. Refuses (Front text (Rule.commas left k) zs) levels room (refusal.Refused fault.Syntax)) (o, s) (Refuses.no_tree (λ x rest q. comma_alone q))
+pub no_comma : {place : ℕ} {text : List ℕ} {ts : List Token} {left : Expr} {room : ℕ} → ts ≡ [] → comma_at ts ≡ true
+    → Refuses (Front text (Rule.commas left (comma_at ts)) ts) levels room (refusal.Refused (fault.Syntax place))
+no_comma {place = place} {text = text} {left = left} {room = room} s o =
+    moved (λ k zs. Refuses (Front text (Rule.commas left k) zs) levels room (refusal.Refused (fault.Syntax place))) (o, s) (Refuses.no_tree (λ x rest q. comma_alone q))
 
 further_back : {text : List ℕ} {behind last : List Token} {t : Token} {left tree : Expr} (room : ℕ) → Front text (Rule.commas left true) (t ∷ behind) tree last
     → (x : Expr) × (rest : List Token) × Front text Rule.assignment behind x rest × (room - 1 < levels x → room < levels tree)
@@ -233,19 +294,6 @@ pub further_refused : {text : List ℕ} {ts behind : List Token} {t : Token} {le
     → Refuses (Front text (Rule.commas left (comma_at ts)) ts) levels room e
 further_refused {text = text} {left = left} {room = room} {e = e} s o h =
     moved (λ k zs. Refuses (Front text (Rule.commas left k) zs) levels room e) (o, s) (passes (λ y last q. further_back room q) h)
-
-comma_back : {text : List ℕ} {behind more last : List Token} {t : Token} {left right next tree : Expr} (room : ℕ)
-    → Front text Rule.assignment behind right more → next ≡ at t (Kind.Comma left right) → Front text (Rule.commas left true) (t ∷ behind) tree last
-    → (x : Expr) × (rest : List Token) × Front text (Rule.commas next (comma_at more)) more x rest × (room < levels x → room < levels tree)
-comma_back {text = text} {last = last} {t = t} {left = left} {tree = tree} room d h (Front.comma d' e) =
-    let g = one_front d d' in
-    (tree, last, moved (λ x zs. Front text (Rule.commas x (comma_at zs)) zs tree last) (h ∙ ap (λ y. at t (Kind.Comma left y)) g.0, g.1) e, λ l. l)
-
-pub comma_refused : {text : List ℕ} {ts behind more : List Token} {t : Token} {left right next : Expr} {room : ℕ} {e : Refusal ParseFault}
-    → ts ≡ t ∷ behind → comma_at ts ≡ true → Front text Rule.assignment behind right more → next ≡ at t (Kind.Comma left right)
-    → Refuses (Front text (Rule.commas next (comma_at more)) more) levels room e → Refuses (Front text (Rule.commas left (comma_at ts)) ts) levels room e
-comma_refused {text = text} {left = left} {room = room} {e = e} s o d n h =
-    moved (λ k zs. Refuses (Front text (Rule.commas left k) zs) levels room e) (o, s) (passes (λ y last q. comma_back room d n q) h)
 
 -- expressions
 pub expression_front : {text : List ℕ} {ts more rest : List Token} {e tree : Expr} → Front text Rule.assignment ts e more

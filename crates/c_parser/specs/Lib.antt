@@ -5,3 +5,7 @@ pub mod VarGrammar
 pub mod StmtGrammar
 pub mod Grammar
 pub mod Reads
+pub mod Nests
+pub mod Sources
+pub mod StmtReads
+pub mod StmtNests

@@ -9,36 +9,27 @@ use Rattle.c_tokens.specs.declared.token.TokenKind.{TokenKind}
 use Rattle.c_tokens.specs.declared.token.TokenKind.TheVariants as kind
 use Rattle.c_tree.specs.Expr.{Expr}
 use Rattle.c_tree.specs.Stmt.{Var, Stmt, OtherStmt, ForHead, Stmts, SwitchItem, SwitchItems}
+use Rattle.c_parser.specs.declared.begins.StmtForm.{StmtForm}
+use Rattle.c_parser.specs.declared.begins.StmtForm.TheVariants as form
+use Rattle.c_parser.specs.declared.begins.ItemForm.{ItemForm}
+use Rattle.c_parser.specs.declared.begins.ItemForm.TheVariants as part
 use Rattle.c_parser.specs.Words.{next_kind, mark_at, key_at, type_at}
 use Rattle.c_parser.specs.ExprWords.{close_at}
 use Rattle.c_parser.specs.ExprGrammar.{IsMark, Rule, Front}
 use Rattle.c_parser.specs.VarGrammar.{close_brace_at, VarRule, VarFront}
 
--- What a statement begins as (C17 6.8).
-pub data StmtForm : Type 0 where
-  a_block : StmtForm
-  an_if : StmtForm
-  a_while : StmtForm
-  a_do : StmtForm
-  a_for : StmtForm
-  a_switch : StmtForm
-  a_break : StmtForm
-  a_continue : StmtForm
-  a_return : StmtForm
-  a_value : StmtForm
-
 -- the statement that a token of a kind begins (C17 6.8)
 abbrev pub form_of : Option TokenKind → StmtForm
-form_of (Some (kind.Mark mark.OpenBrace)) = StmtForm.a_block
-form_of (Some (kind.Key key.If)) = StmtForm.an_if
-form_of (Some (kind.Key key.While)) = StmtForm.a_while
-form_of (Some (kind.Key key.Do)) = StmtForm.a_do
-form_of (Some (kind.Key key.For)) = StmtForm.a_for
-form_of (Some (kind.Key key.Switch)) = StmtForm.a_switch
-form_of (Some (kind.Key key.Break)) = StmtForm.a_break
-form_of (Some (kind.Key key.Continue)) = StmtForm.a_continue
-form_of (Some (kind.Key key.Return)) = StmtForm.a_return
-form_of _ = StmtForm.a_value
+form_of (Some (kind.Mark mark.OpenBrace)) = form.Block
+form_of (Some (kind.Key key.If)) = form.If
+form_of (Some (kind.Key key.While)) = form.While
+form_of (Some (kind.Key key.Do)) = form.Do
+form_of (Some (kind.Key key.For)) = form.For
+form_of (Some (kind.Key key.Switch)) = form.Switch
+form_of (Some (kind.Key key.Break)) = form.Break
+form_of (Some (kind.Key key.Continue)) = form.Continue
+form_of (Some (kind.Key key.Return)) = form.Return
+form_of _ = form.Value
 
 -- the statement that the next tokens begin (C17 6.8)
 abbrev pub form_at : List Token → StmtForm
@@ -62,17 +53,11 @@ semicolon_at tokens = is_semicolon (mark_at tokens)
 abbrev pub else_at : List Token → Bool
 else_at tokens = is_else (key_at tokens)
 
--- What begins in the braces of a `switch` (C17 6.8.1).
-pub data ItemForm : Type 0 where
-  a_case : ItemForm
-  a_default : ItemForm
-  an_item : ItemForm
-
 -- the item that a keyword begins (C17 6.8.1)
 abbrev pub item_of : Option Keyword → ItemForm
-item_of (Some key.Case) = ItemForm.a_case
-item_of (Some key.Default) = ItemForm.a_default
-item_of _ = ItemForm.an_item
+item_of (Some key.Case) = part.Case
+item_of (Some key.Default) = part.Default
+item_of _ = part.Item
 
 -- the item that the next tokens begin (C17 6.8.1)
 abbrev pub item_at : List Token → ItemForm
@@ -104,12 +89,12 @@ pub data StmtRule : Type 0 where
 
 -- what a rule gives (own)
 abbrev pub StmtResult : StmtRule → Type 0
-StmtResult (StmtRule.statement form) = Stmt
+StmtResult (StmtRule.statement f) = Stmt
 StmtResult (StmtRule.alternative there) = OtherStmt
 StmtResult (StmtRule.first declares) = OtherStmt
 StmtResult (StmtRule.item declares) = Stmt
 StmtResult (StmtRule.items closed) = Stmts
-StmtResult (StmtRule.switch_item form) = SwitchItem
+StmtResult (StmtRule.switch_item f) = SwitchItem
 StmtResult (StmtRule.switch_items closed) = SwitchItems
 
 -- By the rule the tokens in front of the rest are a statement, or a part of one, of this tree (C17 6.8).
@@ -118,18 +103,18 @@ pub data StmtFront (text : List ℕ) : (rule : StmtRule) → List Token → Stmt
   block : {t close : Token} {ts rest : List Token} {ss : Stmts} {tree : Stmt}
       → StmtFront text (StmtRule.items (close_brace_at ts)) ts ss (close ∷ rest)
       → IsMark mark.CloseBrace close → tree ≡ Stmt.Block ss
-      → StmtFront text (StmtRule.statement StmtForm.a_block) (t ∷ ts) tree rest
+      → StmtFront text (StmtRule.statement form.Block) (t ∷ ts) tree rest
   -- an expression or none, and `;` (C17 6.8.3)
   value : {semicolon : Token} {ts rest : List Token} {e : Option Expr} {tree : Stmt}
       → Front text (Rule.optional (semicolon_at ts)) ts e (semicolon ∷ rest)
       → IsMark mark.Semicolon semicolon → tree ≡ value_of e
-      → StmtFront text (StmtRule.statement StmtForm.a_value) ts tree rest
+      → StmtFront text (StmtRule.statement form.Value) ts tree rest
   -- `if ( expr )`, a statement, and what `else` adds (C17 6.8.4)
   if_ : {t open_ close : Token} {ts more last rest : List Token} {e : Expr} {s : Stmt} {other : OtherStmt} {tree : Stmt}
       → IsMark mark.OpenParen open_ → Front text Rule.expression ts e (close ∷ more) → IsMark mark.CloseParen close
       → StmtFront text (StmtRule.statement (form_at more)) more s last
       → StmtFront text (StmtRule.alternative (else_at last)) last other rest → tree ≡ Stmt.If e s other
-      → StmtFront text (StmtRule.statement StmtForm.an_if) (t ∷ open_ ∷ ts) tree rest
+      → StmtFront text (StmtRule.statement form.If) (t ∷ open_ ∷ ts) tree rest
   -- an `else` behind a statement joins the `if` of that statement (C17 6.8.4.1 paragraph 3)
   else_ : {t : Token} {ts rest : List Token} {s : Stmt} {tree : OtherStmt} → StmtFront text (StmtRule.statement (form_at ts)) ts s rest
       → tree ≡ OtherStmt.There s
@@ -140,20 +125,20 @@ pub data StmtFront (text : List ℕ) : (rule : StmtRule) → List Token → Stmt
   while_ : {t open_ close : Token} {ts more rest : List Token} {e : Expr} {s tree : Stmt} → IsMark mark.OpenParen open_
       → Front text Rule.expression ts e (close ∷ more) → IsMark mark.CloseParen close
       → StmtFront text (StmtRule.statement (form_at more)) more s rest → tree ≡ Stmt.While e s
-      → StmtFront text (StmtRule.statement StmtForm.a_while) (t ∷ open_ ∷ ts) tree rest
+      → StmtFront text (StmtRule.statement form.While) (t ∷ open_ ∷ ts) tree rest
   -- `do`, a statement, `while ( expr ) ;`; the line is that of the `while` (C17 6.8.5)
   do_ : {t word open_ close semicolon : Token} {ts more rest : List Token} {s : Stmt} {e : Expr} {tree : Stmt}
       → StmtFront text (StmtRule.statement (form_at ts)) ts s (word ∷ open_ ∷ more) → IsKey key.While word → IsMark mark.OpenParen open_
       → Front text Rule.expression more e (close ∷ semicolon ∷ rest) → IsMark mark.CloseParen close → IsMark mark.Semicolon semicolon
       → tree ≡ Stmt.DoWhile s e word.line
-      → StmtFront text (StmtRule.statement StmtForm.a_do) (t ∷ ts) tree rest
+      → StmtFront text (StmtRule.statement form.Do) (t ∷ ts) tree rest
   -- `for (`, its three parts, `)` and a statement (C17 6.8.5)
   for_ : {t open_ semicolon close : Token} {ts more last body rest : List Token} {first : OtherStmt} {test step : Option Expr} {s tree : Stmt}
       → IsMark mark.OpenParen open_ → StmtFront text (StmtRule.first (type_at ts)) ts first more
       → Front text (Rule.optional (semicolon_at more)) more test (semicolon ∷ last) → IsMark mark.Semicolon semicolon
       → Front text (Rule.optional (close_at last)) last step (close ∷ body) → IsMark mark.CloseParen close
       → StmtFront text (StmtRule.statement (form_at body)) body s rest → tree ≡ Stmt.For (ForHead.Head first test step) s
-      → StmtFront text (StmtRule.statement StmtForm.a_for) (t ∷ open_ ∷ ts) tree rest
+      → StmtFront text (StmtRule.statement form.For) (t ∷ open_ ∷ ts) tree rest
   -- the first part is a declaration, or an expression or none with its `;` (C17 6.8.5)
   first_declares : {ts rest : List Token} {vs : List Var} {tree : OtherStmt} → VarFront text VarRule.declaration ts vs rest
       → tree ≡ OtherStmt.There (Stmt.Vars vs)
@@ -167,17 +152,17 @@ pub data StmtFront (text : List ℕ) : (rule : StmtRule) → List Token → Stmt
       → IsMark mark.CloseParen close → IsMark mark.OpenBrace brace
       → StmtFront text (StmtRule.switch_items (close_brace_at more)) more is (end ∷ rest) → IsMark mark.CloseBrace end
       → tree ≡ Stmt.Switch e is
-      → StmtFront text (StmtRule.statement StmtForm.a_switch) (t ∷ open_ ∷ ts) tree rest
+      → StmtFront text (StmtRule.statement form.Switch) (t ∷ open_ ∷ ts) tree rest
   -- `break ;`, `continue ;`, and `return` with an expression or none (C17 6.8.6)
   break_ : {t semicolon : Token} {rest : List Token} {tree : Stmt} → IsMark mark.Semicolon semicolon → tree ≡ Stmt.Break t.start t.line
-      → StmtFront text (StmtRule.statement StmtForm.a_break) (t ∷ semicolon ∷ rest) tree rest
+      → StmtFront text (StmtRule.statement form.Break) (t ∷ semicolon ∷ rest) tree rest
   continue_ : {t semicolon : Token} {rest : List Token} {tree : Stmt} → IsMark mark.Semicolon semicolon
       → tree ≡ Stmt.Continue t.start t.line
-      → StmtFront text (StmtRule.statement StmtForm.a_continue) (t ∷ semicolon ∷ rest) tree rest
+      → StmtFront text (StmtRule.statement form.Continue) (t ∷ semicolon ∷ rest) tree rest
   return_ : {t semicolon : Token} {ts rest : List Token} {e : Option Expr} {tree : Stmt}
       → Front text (Rule.optional (semicolon_at ts)) ts e (semicolon ∷ rest) → IsMark mark.Semicolon semicolon
       → tree ≡ Stmt.Return e t.start t.line
-      → StmtFront text (StmtRule.statement StmtForm.a_return) (t ∷ ts) tree rest
+      → StmtFront text (StmtRule.statement form.Return) (t ∷ ts) tree rest
   -- with a type word in front it declares, otherwise it is a statement (C17 6.8.2)
   declares : {ts rest : List Token} {vs : List Var} {tree : Stmt} → VarFront text VarRule.declaration ts vs rest → tree ≡ Stmt.Vars vs
       → StmtFront text (StmtRule.item true) ts tree rest
@@ -191,12 +176,12 @@ pub data StmtFront (text : List ℕ) : (rule : StmtRule) → List Token → Stmt
   -- a label of a `switch`, or an item (C17 6.8.1)
   case_ : {t colon : Token} {ts rest : List Token} {e : Expr} {tree : SwitchItem} → Front text Rule.conditional ts e (colon ∷ rest)
       → IsMark mark.Colon colon → tree ≡ SwitchItem.Case e t.start
-      → StmtFront text (StmtRule.switch_item ItemForm.a_case) (t ∷ ts) tree rest
+      → StmtFront text (StmtRule.switch_item part.Case) (t ∷ ts) tree rest
   default_ : {t colon : Token} {rest : List Token} {tree : SwitchItem} → IsMark mark.Colon colon → tree ≡ SwitchItem.Default t.start
-      → StmtFront text (StmtRule.switch_item ItemForm.a_default) (t ∷ colon ∷ rest) tree rest
+      → StmtFront text (StmtRule.switch_item part.Default) (t ∷ colon ∷ rest) tree rest
   switch_states : {ts rest : List Token} {s : Stmt} {tree : SwitchItem} → StmtFront text (StmtRule.item (type_at ts)) ts s rest
       → tree ≡ SwitchItem.Item s
-      → StmtFront text (StmtRule.switch_item ItemForm.an_item) ts tree rest
+      → StmtFront text (StmtRule.switch_item part.Item) ts tree rest
   -- labels and items up to `}` (own)
   switch-end : {rest : List Token} {tree : SwitchItems} → tree ≡ SwitchItems.Last
       → StmtFront text (StmtRule.switch_items true) rest tree rest

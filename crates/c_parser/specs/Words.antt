@@ -1,5 +1,5 @@
 -- What the grammar asks of the next tokens: marks, words, and the type that type words name.
-use Rattle.std.specs.Prelude.{ℕ, ◌+◌, ◌==◌, ◌&&◌, Bool, true, false, cond, List, [], ◌∷◌, Option, Some, None, slice_range}
+use Rattle.std.specs.Prelude.{ℕ, ◌+◌, ◌==◌, ◌&&◌, Bool, true, false, cond, List, [], ◌∷◌, length, min, Option, Some, None, slice_range}
 use Rattle.int_ops.specs.declared.types.IntType.TheVariants as type
 use Rattle.c_tokens.specs.declared.token.Keyword.{Keyword}
 use Rattle.c_tokens.specs.declared.token.Keyword.TheVariants as key
@@ -18,6 +18,11 @@ name_of text t = slice_range text t.start t.end
 abbrev pub next_kind : List Token → Option TokenKind
 next_kind [] = None
 next_kind (t ∷ ts) = Some t.kind
+
+-- where the next token begins, or the length of the text (own)
+abbrev pub place_at : List ℕ → List Token → ℕ
+place_at text [] = min (length text) 4294967295
+place_at text (t ∷ ts) = t.start
 
 -- what stands behind the next token (own)
 abbrev pub behind : List Token → List Token

@@ -1,4 +1,4 @@
-//! What the next tokens of an expression can begin.
+//! What the next tokens can begin.
 
 use int_ops::{BinOp, IntType};
 
@@ -53,4 +53,29 @@ pub enum ParamsForm {
     OnlyVoid,
     /// Parameters with commas between them.
     Listed,
+}
+
+/// What a statement begins as.
+#[derive(Clone, Copy, Debug, PartialEq, Eq)]
+pub enum StmtForm {
+    Block,
+    If,
+    While,
+    Do,
+    For,
+    Switch,
+    Break,
+    Continue,
+    Return,
+    /// An expression, or nothing but `;`.
+    Value,
+}
+
+/// What begins in the braces of a `switch`.
+#[derive(Clone, Copy, Debug, PartialEq, Eq)]
+pub enum ItemForm {
+    Case,
+    Default,
+    /// A declaration or a statement.
+    Item,
 }

@@ -21,6 +21,16 @@ pub fn next_kind(tokens: &[Token]) -> Option<TokenKind>
     }
 }
 
+/// Where the next token begins, or the length of the text where there is none.
+pub fn place_at(text: &[u8], tokens: &[Token]) -> u32
+    ensures { result ≡ spec.place_at text.now tokens.now }
+{
+    match tokens.split_first() {
+        Some((first, _)) => first.start,
+        None => text.len().min(u32::MAX as usize) as u32,
+    }
+}
+
 /// What stands behind the next token.
 pub fn behind<'a>(tokens: &'a [Token]) -> &'a [Token]
     ensures { result.now ≡ spec.behind tokens.now }
@@ -105,7 +115,7 @@ pub fn prefix_at(tokens: &[Token]) -> Prefix
 }
 
 /// Whether the next token is `(`.
-fn open_at(tokens: &[Token]) -> bool
+pub fn open_at(tokens: &[Token]) -> bool
     ensures { result ≡ spec_expr.is_open (spec.mark_at tokens.now) }
 {
     match mark_at(tokens) {

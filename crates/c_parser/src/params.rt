@@ -10,7 +10,7 @@ ghost use Rattle.c_parser.specs.Reads.{Refuses};
 
 use crate::begins::ParamsForm;
 use crate::fault::ParseFault;
-use crate::lookahead::{behind, close_at, comma_at, key_at};
+use crate::lookahead::{behind, close_at, comma_at, key_at, place_at};
 use crate::made::name_of;
 use crate::type_names::base_at;
 use crate::type_words::behind_words;
@@ -84,10 +84,10 @@ fn read_param<'a>(
         (UnitRule.param (words.name_at (words.behind_words tokens.now))) tokens.now p rest) (λ p. 0) 0 e) }
 {
     let Some(base) = base_at(tokens) else {
-        return Err(Refusal::Refused(ParseFault::Syntax));
+        return Err(Refusal::Refused(ParseFault::Syntax(place_at(text, tokens))));
     };
     let Some((first, _)) = tokens.split_first() else {
-        return Err(Refusal::Refused(ParseFault::Syntax));
+        return Err(Refusal::Refused(ParseFault::Syntax(place_at(text, tokens))));
     };
     let after = behind_words(tokens);
     match name_in_front(after) {

@@ -1,1 +1,1 @@
-pub mod TextParamsLaws
+pub mod TextTreeLaws

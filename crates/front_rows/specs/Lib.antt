@@ -1,1 +1,1 @@
-pub mod TextParams
+pub mod TextTree

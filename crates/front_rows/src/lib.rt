@@ -1,8 +1,8 @@
-//! Tests of the front: integer types, operators, tokens and trees; and the parameters that a text begins with.
+//! The tree of a text; and tests of the front: integer types, operators, tokens and trees.
 #![tactic(auto)]
 
 #[cfg(test)]
 mod tests;
-mod text_params;
+mod text_tree;
 
-pub use text_params::{TextFault, params_of_text};
+pub use text_tree::{TextFault, tree_of_text};

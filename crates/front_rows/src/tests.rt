@@ -1,7 +1,9 @@
 //! Worked rows, each with values from outside.
 
+mod fault_rows;
 mod operator_rows;
 mod operators;
-mod parameters;
+mod texts;
 mod tokens;
+mod tree_rows;
 mod trees;

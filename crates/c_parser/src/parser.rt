@@ -1,0 +1,84 @@
+//! Tokens to a tree.
+
+ghost use Rattle.std.specs.Prelude.{◌≡◌, IfOk, IfErr};
+ghost use Rattle.cov_base.specs.declared.refusal.Refusal.TheVariants as refusal;
+ghost use Rattle.c_tokens.specs.Tokens.{Splits};
+ghost use Rattle.c_tree.specs.TreeView.{tree_view};
+ghost use Rattle.c_parser.specs.Grammar as grammar;
+ghost use Rattle.c_parser.specs.Reads.{Refuses};
+ghost use Rattle.c_parser.specs.Sources.{Parses, ParseRefuses, UnitAt};
+ghost use Rattle.c_tree.specs.Levels.{most, outer_levels};
+
+use crate::fault::ParseFault;
+use crate::units::read_outers;
+use c_tokens::Token;
+use c_tree::Tree;
+use cov_base::Refusal;
+use std::alloc::Global;
+
+/// The most levels that a tree may have: statements and expressions on a way to a leaf, parentheses included.
+pub const MOST_LEVELS: u32 = 256;
+
+/// The end of the last token, or 0 where there is none.
+fn end_of(tokens: &[Token]) -> u32
+    ensures { result ≡ grammar.end_from 0 tokens.now }
+{
+    let mut end = 0;
+    for token in tokens {
+        end = token.end;
+    }
+    end
+}
+
+/// What a fault of the parts of a source says of the source. Tokens have no deeper tree than there are tokens, so few tokens that
+/// have none within the bound have none at all. The place of `TooDeep` lies behind the start of the 257th token.
+#[tactic(auto, using(crate::proofs::ParseLaws::no_tree, crate::proofs::ParseLaws::too_deep, crate::proofs::ParseLaws::too_few))]
+fn told_fault(text: &[u8], tokens: &[Token], fault: ParseFault) -> ParseFault
+    requires splits { Splits text.now tokens.now }
+    requires refused { Refuses (UnitAt text.now tokens.now) (most outer_levels) 256 (refusal.Refused fault) }
+    ensures { ParseRefuses text.now tokens.now (refusal.Refused result) }
+{
+    match fault {
+        ParseFault::TooDeep(place) => match tokens.get(MOST_LEVELS as usize) {
+            Some(token) => ParseFault::TooDeep(place.max(token.end)),
+            None => ParseFault::Syntax(place),
+        },
+        ParseFault::Syntax(place) => ParseFault::Syntax(place),
+    }
+}
+
+/// What a refusal of the parts of a source says of the source.
+#[tactic(auto, using(crate::proofs::ParseLaws::memory))]
+fn told(text: &[u8], tokens: &[Token], refusal: Refusal<ParseFault>) -> Refusal<ParseFault>
+    requires splits { Splits text.now tokens.now }
+    requires refused { Refuses (UnitAt text.now tokens.now) (most outer_levels) 256 refusal }
+    ensures { ParseRefuses text.now tokens.now result }
+{
+    match refusal {
+        Refusal::Refused(fault) => Refusal::Refused(told_fault(text, tokens, fault)),
+        Refusal::NoMemory => Refusal::NoMemory,
+    }
+}
+
+/// The tree of a text's tokens, of at most 256 levels.
+///
+/// # Errors
+///
+/// `Syntax` where no tree derives the tokens, with the start of the token at which the grammar stopped, or the length of the text where
+/// the tokens end too early. `TooDeep` where none of at most 256 levels does; more than 256 tokens begin before its place. `NoMemory`
+/// where memory ran out.
+#[tactic(auto, using(crate::proofs::ParseLaws::parsed))]
+pub fn parse(alloc: Global, text: &[u8], tokens: &[Token]) -> Result<Tree, Refusal<ParseFault>>
+    requires { Splits text.now tokens.now }
+    ensures ok { IfOk result (λ tree. Parses text.now tokens.now (tree_view tree)) }
+    ensures err { IfErr result (λ e. ParseRefuses text.now tokens.now e) }
+{
+    let outers = match read_outers(alloc, text, tokens, MOST_LEVELS) {
+        Ok(outers) => outers,
+        Err(refusal) => return Err(told(text, tokens, refusal)),
+    };
+    Ok(Tree {
+        outers,
+        end: end_of(tokens),
+    })
+}
