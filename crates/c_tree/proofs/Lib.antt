@@ -1,2 +1,4 @@
+mod RefusedRows
 mod Rows
 mod RunLaws
+mod ScopeLaws
