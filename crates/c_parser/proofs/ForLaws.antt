@@ -25,7 +25,7 @@ use Rattle.c_parser.proofs.Moves.{moved1, rests_same}
 use Rattle.c_parser.proofs.ExprUnique.{one_front}
 use Rattle.c_parser.proofs.StmtUnique.{one_stmt}
 use Rattle.c_parser.proofs.ReadLaws.{passes, left_of_two, right_of_two}
-use Rattle.c_parser.proofs.TwoLaws.{Two, first_refused as head_refused, second_refused}
+use Rattle.c_parser.proofs.TwoLaws.{Two, first_refused, second_refused}
 use Rattle.c_parser.proofs.ConditionLaws.{word_before}
 
 -- the first part, a declaration
@@ -131,7 +131,7 @@ two_controls p last c = record {
 
 pub test_refused : {text : List ℕ} {ts : List Token} {room : ℕ} {e : Refusal ParseFault}
     → Refuses (Ended text (semicolon_at ts) mark.Semicolon ts) levels_if room e → Refuses (Controls text ts) controls_levels room e
-test_refused h = head_refused two_controls (omega arith) h
+test_refused h = first_refused two_controls (omega arith) h
 
 pub step_refused : {text : List ℕ} {ts middle : List Token} {x : Option Expr} {room : ℕ} {e : Refusal ParseFault}
     → Ended text (semicolon_at ts) mark.Semicolon ts x middle → Refuses (Ended text (close_at middle) mark.CloseParen middle) levels_if room e
@@ -179,15 +179,15 @@ two_parens s head last h = record {
   tail_fits = omega (arith, ap head_levels h.is, right_of_two (other_levels h.first) (controls_levels h.controls));
 }
 
-pub first_refused : {text : List ℕ} {ts inside : List Token} {room : ℕ} {e : Refusal ParseFault}
+pub parens_first_refused : {text : List ℕ} {ts inside : List Token} {room : ℕ} {e : Refusal ParseFault}
     → (open_ : Token) × (ts ≡ open_ ∷ inside) × IsMark mark.OpenParen open_
     → Refuses (StmtFront text (StmtRule.first (type_at inside)) inside) other_levels room e → Refuses (Parens text ts) head_levels room e
-first_refused o h = head_refused (two_parens o.1) (omega arith) h
+parens_first_refused o h = first_refused (two_parens o.1) (omega arith) h
 
-pub controls_refused : {text : List ℕ} {ts inside middle : List Token} {first : OtherStmt} {room : ℕ} {e : Refusal ParseFault}
+pub parens_controls_refused : {text : List ℕ} {ts inside middle : List Token} {first : OtherStmt} {room : ℕ} {e : Refusal ParseFault}
     → (open_ : Token) × (ts ≡ open_ ∷ inside) × IsMark mark.OpenParen open_ → StmtFront text (StmtRule.first (type_at inside)) inside first middle
     → Refuses (Controls text middle) controls_levels room e → Refuses (Parens text ts) head_levels room e
-controls_refused o d h = second_refused (two_parens o.1) (omega arith) (λ x y xs ys p q. (one_stmt p q).1) d h
+parens_controls_refused o d h = second_refused (two_parens o.1) (omega arith) (λ x y xs ys p q. (one_stmt p q).1) d h
 
 pub parenless : {place : ℕ} {text : List ℕ} {ts : List Token} {room : ℕ}
     → ((open_ : Token) (rest : List Token) → ts ≡ open_ ∷ rest → IsMark mark.OpenParen open_ → ⊥)
@@ -232,7 +232,7 @@ two_of_for z tree last
 
 pub for_head_refused : {text : List ℕ} {ts next : List Token} {room : ℕ} {e : Refusal ParseFault} → next ≡ behind ts
     → Refuses (Parens text next) head_levels room e → Refuses (StmtFront text (StmtRule.statement form.For) ts) stmt_levels (room + 1) e
-for_head_refused z h = head_refused (two_of_for z) refl h
+for_head_refused z h = first_refused (two_of_for z) refl h
 
 pub for_body_refused : {text : List ℕ} {ts next middle : List Token} {head : ForHead} {room : ℕ} {e : Refusal ParseFault} → next ≡ behind ts
     → Parens text next head middle → Refuses (StmtFront text (StmtRule.statement (form_at middle)) middle) stmt_levels room e

@@ -126,7 +126,7 @@ fn read_controls<'a>(
 }
 
 /// What stands between `for` and its body. Its parts have at most `room` levels.
-#[tactic(auto, using(crate::proofs::ForLaws::parens_front, crate::proofs::ForLaws::first_refused, crate::proofs::ForLaws::controls_refused, crate::proofs::ForLaws::parenless))]
+#[tactic(auto, using(crate::proofs::ForLaws::parens_front, crate::proofs::ForLaws::parens_first_refused, crate::proofs::ForLaws::parens_controls_refused, crate::proofs::ForLaws::parenless))]
 pub fn read_head<'a>(
     alloc: Global,
     text: &'a [u8],

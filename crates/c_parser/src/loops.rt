@@ -1,6 +1,6 @@
 //! `if` and the loops.
 
-ghost use Rattle.std.specs.Prelude.{◌≡◌, ◌+◌, ◌<◌, ◌≤◌, ◌∷◌, length, option_map, IfOk, IfErr};
+ghost use Rattle.std.specs.Prelude.{◌≡◌, ◌+◌, ◌<◌, ◌≤◌, length, option_map, IfOk, IfErr};
 ghost use Rattle.c_tree.specs.TreeView.{other_of, stmt_view};
 ghost use Rattle.c_tree.specs.Levels.{other_levels, stmt_levels};
 ghost use Rattle.c_parser.specs.declared.begins.StmtForm.TheVariants as form;

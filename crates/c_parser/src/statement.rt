@@ -1,16 +1,15 @@
-//! Statements and the items of blocks.
+//! Statements and the items of blocks. Each reader refuses with `Syntax` where nothing of its form is a front of the tokens, with
+//! `TooDeep` where each that is one has more levels than there is room for, or for want of memory.
 
-ghost use Rattle.std.specs.Prelude.{◌≡◌, ◌+◌, ◌<◌, ◌≤◌, ◌∷◌, map, length, option_map, IfOk, IfErr};
-ghost use Rattle.c_tokens.specs.declared.token.Punct.TheVariants as mark;
-ghost use Rattle.c_tree.specs.TreeView.{expr_view, stmt_view, stmts_of};
-ghost use Rattle.c_tree.specs.Levels.{levels_if, stmt_levels, stmts_levels};
+ghost use Rattle.std.specs.Prelude.{◌≡◌, ◌+◌, ◌<◌, ◌≤◌, map, length, IfOk, IfErr};
+ghost use Rattle.c_tree.specs.TreeView.{stmt_view, stmts_of};
+ghost use Rattle.c_tree.specs.Levels.{stmt_levels, stmts_levels};
 ghost use Rattle.c_parser.specs.declared.begins.StmtForm.TheVariants as form;
 ghost use Rattle.c_parser.specs.Words as words;
 ghost use Rattle.c_parser.specs.VarGrammar.{close_brace_at};
 ghost use Rattle.c_parser.specs.StmtGrammar as spec;
 ghost use Rattle.c_parser.specs.StmtGrammar.{StmtRule, StmtFront};
 ghost use Rattle.c_parser.specs.Reads.{Refuses};
-ghost use Rattle.c_parser.specs.StmtReads.{Ended};
 ghost use Rattle.c_parser.specs.StmtNests.{InnerStmt, StmtNests};
 
 use crate::begins::StmtForm;

@@ -78,7 +78,7 @@ fn word_in_front<'a>(tokens: &'a [Token], keyword: Keyword) -> Option<(Token, &'
 }
 
 /// What stands behind the body of a `do`, with a test of at most `room` levels.
-#[tactic(auto, using(crate::proofs::ConditionLaws::until_front, crate::proofs::ConditionLaws::until_refused, crate::proofs::ConditionLaws::no_while, crate::proofs::ConditionLaws::until_open))]
+#[tactic(auto, using(crate::proofs::ConditionLaws::until_front, crate::proofs::ConditionLaws::until_refused, crate::proofs::ConditionLaws::no_while))]
 pub fn read_until<'a>(
     alloc: Global,
     text: &'a [u8],

@@ -23,7 +23,8 @@ pub struct ReadItems<'a> {
     pub rest: &'a [Token],
 }
 
-/// Declarations and statements of at most `room` levels, up to `}`.
+/// Declarations and statements of at most `room` levels, up to `}`. Its refusal is `Syntax`, where none are a front of the tokens,
+/// `TooDeep`, where all that are have more levels, or want of memory.
 pub fn read_items<'a>(
     alloc: Global,
     text: &'a [u8],

@@ -1,6 +1,6 @@
 //! `switch`, its labels and its items.
 
-ghost use Rattle.std.specs.Prelude.{◌≡◌, ◌+◌, ◌<◌, ◌≤◌, ◌∷◌, map, length, IfOk, IfErr};
+ghost use Rattle.std.specs.Prelude.{◌≡◌, ◌+◌, ◌<◌, ◌≤◌, map, length, IfOk, IfErr};
 ghost use Rattle.c_tree.specs.TreeView.{item_view, items_of, stmt_view};
 ghost use Rattle.c_tree.specs.Levels.{item_levels, items_levels, stmt_levels};
 ghost use Rattle.c_parser.specs.declared.begins.ItemForm.TheVariants as part;
