@@ -2,6 +2,7 @@ mod FurtherRows
 mod FurtherSources
 mod GraphRows
 mod MeaningRows
+pub mod NameRanges
 pub mod OrderLaws
 mod Sources
 pub mod SpareTurns
