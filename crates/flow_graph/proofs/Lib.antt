@@ -2,10 +2,12 @@ mod FurtherRows
 mod FurtherSources
 mod GraphRows
 mod MeaningRows
+pub mod NameLaws
 pub mod NameRanges
 pub mod OrderLaws
 mod Sources
 pub mod SpareTurns
+mod StatementNames
 mod StatementRows
 mod StatementSources
 mod TrapRows

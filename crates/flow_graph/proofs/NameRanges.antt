@@ -1,5 +1,5 @@
 -- The blocks that an expression begins have the numbers of its own nodes in their names, and no two of them have one name.
-use Rattle.std.proofs.Common.{arith, ◌≡◌, ◌≢◌, refl, ℕ, suc, ◌+◌, ◌<◌, ◌≤◌, ◌==◌, Bool, true, false, cond, List, [], ◌∷◌, Option, Some, None}
+use Rattle.std.proofs.Common.{arith, ◌≡◌, ◌≢◌, refl, ℕ, suc, ◌+◌, ◌<◌, ◌≤◌, ◌==◌, Bool, true, false, cond, List, [], ◌∷◌, Option, Some, None, codes}
 use Rattle.std.specs.Prelude.{nat_lt}
 use Rattle.std.proofs.lemmas.Bool.Decides.{nat_tests}
 use Rattle.int_ops.specs.declared.types.IntType.{IntType}
@@ -52,7 +52,7 @@ pub record Puts (l : Name) (w : Ways) (m n : ℕ) : Type 0 where
   pub value : (rest : List Item) → Adds l m n 0 rest (w.value rest)
   pub test : (t f : Name) (rest : List Item) → Adds l m n 0 rest (w.test t f rest)
 
-below_most : (l : Name) (n : ℕ) → below l n ≤ 1
+pub below_most : (l : Name) (n : ℕ) → below l n ≤ 1
 unfolding below
 below_most l n = grind (arith, nat_tests)
 
@@ -60,7 +60,7 @@ below_grows : (l : Name) (m n : ℕ) → m ≤ n → below l m ≤ below l n
 unfolding below
 below_grows l m n le = grind (arith, nat_tests)
 
-below_first : (l : Name) → below l 0 ≡ 0
+pub below_first : (l : Name) → below l 0 ≡ 0
 unfolding below
 below_first l = grind (arith, nat_tests)
 
@@ -185,11 +185,11 @@ module _ {l : Name} where
   logic_puts : {m n : ℕ} (line : ℕ) (k : Name → Name → List Item → List Item)
       → ((t f : Name) (rest : List Item) → Adds l (suc m) n (here l (at-M m)) rest (k t f rest)) → Puts l (logic m line k) m n
   logic_puts {m = m} line k h = record {
-    value = λ rest. node m (70 ∷ 74 ∷ 77 ∷ 84 ∷ []) (omega arith) (then (h _ _ _) (named (op (end (named (op (named still))))))) (omega arith);
-    test = λ t f rest. node m (77 ∷ []) (omega arith) (h t f rest) (omega arith);
+    value = λ rest. node m (codes "FJMT") (omega arith) (then (h _ _ _) (named (op (end (named (op (named still))))))) (omega arith);
+    test = λ t f rest. node m (codes "M") (omega arith) (h t f rest) (omega arith);
   }
 
-  calls : (f : Callee) (line m n : ℕ) (rest : List Item) → Adds l n n (of_node l m (78 ∷ [])) rest (called f line m rest)
+  calls : (f : Callee) (line m n : ℕ) (rest : List Item) → Adds l n n (of_node l m (codes "N")) rest (called f line m rest)
   calls (callee.Function f) line m n rest = more (end (named still)) (omega arith)
   calls callee.GetChar line m n rest = more (op still) (omega arith)
   calls callee.PutChar line m n rest = more (op still) (omega arith)
@@ -205,7 +205,7 @@ module _ {l : Name} where
     puts_kind (TypedKind.Number k t) b line m n e = plain_puts _ (λ rest. op (passed (omega arith)))
     puts_kind TypedKind.EofName b line m n e = plain_puts _ (λ rest. op (passed (omega arith)))
     puts_kind (TypedKind.Call f args) b line m n e =
-        plain_puts _ (λ rest. node m (78 ∷ []) (omega arith) (then (puts_all args (suc m) n e _) (calls f line m n rest)) (omega arith))
+        plain_puts _ (λ rest. node m (codes "N") (omega arith) (then (puts_all args (suc m) n e _) (calls f line m n rest)) (omega arith))
     puts_kind (TypedKind.Index c k place named x) b line m n e =
         plain_puts _ (λ rest. node m [] tt (then ((puts x (suc m) n e).value _) (op (op still))) (omega arith))
     puts_kind (TypedKind.Convert x) b line m n e =
@@ -227,7 +227,7 @@ module _ {l : Name} where
     puts_kind (TypedKind.OrElse x y) b line m n e =
         logic_puts line _ (λ t f rest. more (then ((puts x (suc m) _ refl).test _ _ _) (named ((puts y _ n (omega arith)).test t f rest))) (omega arith))
     puts_kind (TypedKind.Choose c x y) b line m n e =
-        plain_puts _ (λ rest. node m (74 ∷ 88 ∷ 89 ∷ []) (omega arith)
+        plain_puts _ (λ rest. node m (codes "JXY") (omega arith)
         (then ((puts c (suc m) _ refl).test _ _ _) (named (then ((puts x _ _ refl).value _) (end (named (then ((puts y _ n (omega arith)).value _) (named still)))))))
         (omega arith))
     puts_kind (TypedKind.Assign None target x) b line m n e =

@@ -8,7 +8,7 @@ same_number : (n : ℕ) → (n == n) ≡ true
 same_number n = (Decides-eqb n n).1 refl
 
 -- a name is its own
-its_own : (l : Name) → is_name l (Some l) ≡ true
+pub its_own : (l : Name) → is_name l (Some l) ≡ true
 its_own l = rw (same_number l.node, same_number l.letter) refl
 
 -- none of the blocks has the name
