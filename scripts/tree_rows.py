@@ -184,27 +184,27 @@ def deepest(front, unit, middle, close, back):
     return most
 
 
+def print_tables(topics, kind, second, expected, value):
+    """One table for each topic, whose rows are a text and what the reader's answer says of it."""
+    for topic, texts in topics.items():
+        rows = [(text, brief(text)) for text in texts]
+        others = [row for row in rows if not row[1].startswith(expected)]
+        assert not others, others
+        print(f"\npub const {topic.upper()}_{kind}: [(&[u8], {second}); {len(rows)}] = [")
+        for text, answer in rows:
+            print(f"    (b{literal(text)}, {value(answer)}),")
+        print("];")
+
+
 def print_trees():
     print("//! Texts with the short forms of their trees. Printed by scripts/tree_rows.py.")
-    for topic, texts in TREES.items():
-        rows = [(text, brief(text)) for text in texts]
-        assert all(answer.startswith("Tree") for _, answer in rows), [row for row in rows if not row[1].startswith("Tree")]
-        print(f"\npub const {topic.upper()}_TREES: [(&[u8], &str); {len(rows)}] = [")
-        for text, answer in rows:
-            print(f"    (b{literal(text)}, {literal(answer)}),")
-        print("];")
+    print_tables(TREES, "TREES", "&str", "Tree", literal)
 
 
 def print_faults():
     print("//! Texts that no tree derives with the places where the grammar stops, and what can be repeated in a source. Printed by")
     print("//! scripts/tree_rows.py.")
-    for topic, texts in FAULTS.items():
-        rows = [(text, brief(text)) for text in texts]
-        assert all(answer.startswith("Syntax") for _, answer in rows), [row for row in rows if not row[1].startswith("Syntax")]
-        print(f"\npub const {topic.upper()}_FAULTS: [(&[u8], u32); {len(rows)}] = [")
-        for text, answer in rows:
-            print(f"    (b{literal(text)}, {answer[7:-1]}),")
-        print("];")
+    print_tables(FAULTS, "FAULTS", "u32", "Syntax", lambda answer: answer[len("Syntax("):-1])
     print()
     print("/// Texts that hold something repeated.")
     print("#[derive(Clone, Copy)]")
