@@ -32,4 +32,4 @@ mod var_lookahead;
 mod vars;
 
 pub use fault::ParseFault;
-pub use parser::{MOST_LEVELS, parse};
+pub use parser::parse;

@@ -13,11 +13,8 @@ use crate::fault::ParseFault;
 use crate::units::read_outers;
 use c_tokens::Token;
 use c_tree::Tree;
-use cov_base::Refusal;
+use cov_base::{LEVEL_LIMIT, Refusal};
 use std::alloc::Global;
-
-/// The most levels that a tree may have: statements and expressions on a way to a leaf, parentheses included.
-pub const MOST_LEVELS: u32 = 256;
 
 /// The end of the last token, or 0 where there is none.
 fn end_of(tokens: &[Token]) -> u32
@@ -39,7 +36,7 @@ fn told_fault(text: &[u8], tokens: &[Token], fault: ParseFault) -> ParseFault
     ensures { ParseRefuses text.now tokens.now (refusal.Refused result) }
 {
     match fault {
-        ParseFault::TooDeep(place) => match tokens.get(MOST_LEVELS as usize) {
+        ParseFault::TooDeep(place) => match tokens.get(LEVEL_LIMIT as usize) {
             Some(token) => ParseFault::TooDeep(place.max(token.end)),
             None => ParseFault::Syntax(place),
         },
@@ -73,7 +70,7 @@ pub fn parse(alloc: Global, text: &[u8], tokens: &[Token]) -> Result<Tree, Refus
     ensures ok { IfOk result (λ tree. Parses text.now tokens.now (tree_view tree)) }
     ensures err { IfErr result (λ e. ParseRefuses text.now tokens.now e) }
 {
-    let outers = match read_outers(alloc, text, tokens, MOST_LEVELS) {
+    let outers = match read_outers(alloc, text, tokens, LEVEL_LIMIT) {
         Ok(outers) => outers,
         Err(refusal) => return Err(told(text, tokens, refusal)),
     };

@@ -7,8 +7,8 @@ use Rattle.std.proofs.Math.Seq.{take-append_seam}
 use Rattle.int_ops.specs.declared.types.IntType.{IntType}
 use Rattle.int_ops.specs.declared.types.IntType.TheVariants as type
 use Rattle.c_tokens.specs.declared.bytes.ByteClass.TheVariants as class
-use Rattle.c_tokens.specs.declared.items.Front.{Front}
-use Rattle.c_tokens.specs.declared.items.Front.TheVariants as front
+use Rattle.c_tokens.specs.declared.items.ItemFront.{ItemFront}
+use Rattle.c_tokens.specs.declared.items.ItemFront.TheVariants as front
 use Rattle.c_tokens.specs.declared.literals.Literal.TheVariants as literal
 use Rattle.c_tokens.specs.declared.quoted.Reading.TheVariants as reading
 use Rattle.c_tokens.specs.declared.token.LeftWord.{LeftWord}
@@ -49,7 +49,7 @@ one_number ia ib run na nb ta tb ea eb la lb =
     let both : literal.Number na ta ≡ literal.Number nb tb = sym la ∙ (ap literal_of (ea ∙ sym eb) ∙ lb) in
     ap₂ (λ n t. token_kind.Number (pos n) t) (let same : na ≡ nb = cc in same) (let same : ta ≡ tb = cc in same)
 
-pub one_item : (f : Front) (starts : Bool) (text ia ib ra rb : List ℕ) (ka kb : Option TokenKind) → text ≡ ia ++ ra → text ≡ ib ++ rb
+pub one_item : (f : ItemFront) (starts : Bool) (text ia ib ra rb : List ℕ) (ka kb : Option TokenKind) → text ≡ ia ++ ra → text ≡ ib ++ rb
     → IsItemOf f starts text ia ka → IsItemOf f starts text ib kb → (ia ≡ ib) × (ka ≡ kb)
 one_item front.Blank starts text ia ib ra rb ka kb is_a is_b a b = (a.0 ∙ sym b.0, a.1 ∙ sym b.1)
 one_item front.LineComment starts text ia ib ra rb ka kb is_a is_b a b = (a.0 ∙ sym b.0, a.1 ∙ sym b.1)
@@ -73,7 +73,7 @@ one_item front.Mark starts text ia ib ra rb ka kb is_a is_b a b =
     let both : Some a.0 ≡ Some b.0 = sym a.1.begins.listed ∙ (ap (look_up marks) same ∙ b.1.begins.listed) in
     (same, a.2 ∙ (ap (λ m. Some (token_kind.Mark m)) (let marks_same : a.0 ≡ b.0 = cc in marks_same) ∙ sym b.2))
 
-pub no_fault : (f : Front) (starts : Bool) (text item rest : List ℕ) (kind : Option TokenKind) (place : ℕ) (found : LexFault)
+pub no_fault : (f : ItemFront) (starts : Bool) (text item rest : List ℕ) (kind : Option TokenKind) (place : ℕ) (found : LexFault)
     → text ≡ item ++ rest → IsItemOf f starts text item kind → IsFaultOf f starts text place found → ⊥
 no_fault front.Blank starts text item rest kind place found is a b = b
 no_fault front.LineComment starts text item rest kind place found is a b = b
@@ -92,7 +92,7 @@ no_fault front.Hash starts text item rest kind place found is a b = let both : t
 no_fault front.Quote starts text item rest kind place found is a b = a
 no_fault front.Mark starts text item rest kind place found is a b = b.0 item a.0 a.1.begins
 
-pub one_fault : (f : Front) (starts : Bool) (text : List ℕ) (place : ℕ) (a b : LexFault) → IsFaultOf f starts text place a → IsFaultOf f starts text place b
+pub one_fault : (f : ItemFront) (starts : Bool) (text : List ℕ) (place : ℕ) (a b : LexFault) → IsFaultOf f starts text place a → IsFaultOf f starts text place b
     → a ≡ b
 one_fault front.Blank starts text place a b fa fb = absurd fa
 one_fault front.LineComment starts text place a b fa fb = absurd fa

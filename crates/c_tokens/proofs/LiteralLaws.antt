@@ -5,8 +5,8 @@ use Rattle.std.proofs.lemmas.Bool.Decides.{nat_tests}
 use Rattle.int_ops.specs.declared.types.IntType.{IntType}
 use Rattle.int_ops.specs.declared.types.IntType.TheVariants as type
 use Rattle.int_ops.specs.Ranges.{is_in_range}
-use Rattle.c_tokens.specs.declared.literals.Base.{Base}
-use Rattle.c_tokens.specs.declared.literals.Base.TheVariants as base
+use Rattle.c_tokens.specs.declared.literals.NumberBase.{NumberBase}
+use Rattle.c_tokens.specs.declared.literals.NumberBase.TheVariants as base
 use Rattle.c_tokens.specs.declared.literals.Suffix.{Suffix}
 use Rattle.c_tokens.specs.declared.literals.Suffix.TheVariants as suffix
 use Rattle.std.specs.List.{prefix_len}
@@ -56,7 +56,7 @@ unsigned_long_short : (n : ℕ) → (n < 2 ^ 64 → ⊥) → is_in_range type.Un
 unsigned_long_short n big =
     ap (λ b. b && nat_le n 0xffff_ffff_ffff_ffff) (zero_le n) ∙ not_le n 0xffff_ffff_ffff_ffff (omega arith)
 
-pub find-too_big : (b : Base) (s : Suffix) (n : ℕ) → (n < 2 ^ 64 → ⊥) → find (λ t. is_in_range t (pos n)) (types_of b s) ≡ None
+pub find-too_big : (b : NumberBase) (s : Suffix) (n : ℕ) → (n < 2 ^ 64 → ⊥) → find (λ t. is_in_range t (pos n)) (types_of b s) ≡ None
 find-too_big base.Decimal suffix.Plain n big = find-above n (type.Int ∷ type.Long ∷ []) (int_short n big, (long_short n big, tt))
 find-too_big base.Octal suffix.Plain n big = find-above n (type.Int ∷ type.UnsignedInt ∷ type.Long ∷ type.UnsignedLong ∷ []) (int_short n big, (unsigned_short n big, (long_short n big, (unsigned_long_short n big, tt))))
 find-too_big base.Hexadecimal suffix.Plain n big = find-above n (type.Int ∷ type.UnsignedInt ∷ type.Long ∷ type.UnsignedLong ∷ []) (int_short n big, (unsigned_short n big, (long_short n big, (unsigned_long_short n big, tt))))
@@ -76,7 +76,7 @@ pub number_from-too_big : (r n d total : ℕ) (digits : List ℕ) → 0 < r → 
 number_from-too_big r n d total digits more big is less =
     big (let least = number_from-least r (n * r + digit_value d) digits more in omega arith)
 
-pub literal_in-too_big : (b : Base) (body : List ℕ) (s : Suffix) → prefix_len (is_in (digit_class b)) body ≢ 0
+pub literal_in-too_big : (b : NumberBase) (body : List ℕ) (s : Suffix) → prefix_len (is_in (digit_class b)) body ≢ 0
     → look_up suffixes (drop (prefix_len (is_in (digit_class b)) body) body) ≡ Some s
     → (number_from (radix b) 0 (take (prefix_len (is_in (digit_class b)) body) body) < 2 ^ 64 → ⊥)
     → literal.TooBig ≡ literal_in b body

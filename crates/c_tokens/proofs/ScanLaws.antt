@@ -10,7 +10,7 @@ use Rattle.c_tokens.specs.declared.token.LexFault.{LexFault}
 use Rattle.c_tokens.specs.declared.token.Token.{Token}
 use Rattle.c_tokens.specs.declared.token.TokenKind.{TokenKind}
 use Rattle.c_tokens.specs.Spans.{StandInOrder}
-use Rattle.c_tokens.specs.Scans.{HasTokens, Refuses, Reaches, RefusesAt}
+use Rattle.c_tokens.specs.Scans.{HasTokens, ScanRefuses, Reaches, RefusesAt}
 use Rattle.c_tokens.specs.Tokens.{IsItem, token_at, line_after, Fills, ends, takes, Fails, here, later}
 use Rattle.c_tokens.proofs.SpanLaws.{fills-in_order}
 use Rattle.c_tokens.proofs.TextLaws.{one_list, list_no_fault, one_failure}
@@ -62,7 +62,7 @@ reached_end text at tokens end reached = record {
         (reached.fills [] (subst (λ r. Fills (take at text) r []) (sym (drop_all at text end)) (ends {before = take at text})))
 
 pub reached_refuses : (text : List ℕ) (at : ℕ) (tokens : List Token) (refusal : Refusal LexFault) → Reaches text at tokens → RefusesAt text at refusal
-    → Refuses text refusal
+    → ScanRefuses text refusal
 reached_refuses text at tokens NoMemory reached h = tt
 reached_refuses text at tokens (Refused fault) reached h = record {
   stands = stands;

@@ -7,11 +7,11 @@ use Rattle.std.proofs.lemmas.Int.{ints}
 use Rattle.std.proofs.lemmas.List.Sums.{count_by-le-length, take_while-cons}
 use Rattle.int_ops.specs.declared.types.IntType.{IntType}
 use Rattle.int_ops.specs.declared.types.IntType.TheVariants as type
-use Rattle.int_ops.specs.Ranges.{Range, is_in_range, least_of, greatest_of}
+use Rattle.int_ops.specs.Ranges.{Range, is_in_range, least, greatest}
 use Rattle.c_tokens.specs.declared.bytes.ByteClass.TheVariants as class
-use Rattle.c_tokens.specs.declared.items.Front.{Front}
-use Rattle.c_tokens.specs.declared.items.Front.TheVariants as front
-use Rattle.c_tokens.specs.declared.literals.Base.{Base}
+use Rattle.c_tokens.specs.declared.items.ItemFront.{ItemFront}
+use Rattle.c_tokens.specs.declared.items.ItemFront.TheVariants as front
+use Rattle.c_tokens.specs.declared.literals.NumberBase.{NumberBase}
 use Rattle.c_tokens.specs.declared.literals.Literal.TheVariants as literal
 use Rattle.c_tokens.specs.declared.literals.Suffix.{Suffix}
 use Rattle.c_tokens.specs.declared.token.Keyword.{Keyword}
@@ -37,7 +37,7 @@ holds false is = cc
 
 in_range : (t : IntType) (n : ℤ) → is_in_range t n ≡ true → Range t n
 in_range t n is =
-    let parts = and_parts (int_le (least_of t) n) (int_le n (greatest_of t)) is in
+    let parts = and_parts (int_le (least t) n) (int_le n (greatest t)) is in
     (record { le = holds _ parts.0 }, record { le = holds _ parts.1 })
 
 find-holds : (n : ℕ) (ts : List IntType) (t : IntType) → find (λ t. is_in_range t (pos n)) ts ≡ Some t → Range t (pos n)
@@ -55,11 +55,11 @@ typed-holds (Some x) m n t holds e =
     let same : x ≡ t = cc in
     subst (λ k. Range t (pos k)) (let number : m ≡ n = cc in number) (holds (ap (λ y. Some y) same))
 
-suffixed-holds : (o : Option Suffix) (b : Base) (m n : ℕ) (t : IntType) → suffixed o b m ≡ literal.Number n t → Range t (pos n)
+suffixed-holds : (o : Option Suffix) (b : NumberBase) (m n : ℕ) (t : IntType) → suffixed o b m ≡ literal.Number n t → Range t (pos n)
 suffixed-holds None b m n t e = cc
 suffixed-holds (Some s) b m n t e = typed-holds (find (λ t. is_in_range t (pos m)) (types_of b s)) m n t (find-holds m (types_of b s) t) e
 
-literal_in-holds : (b : Base) (body : List ℕ) (n : ℕ) (t : IntType) → literal_in b body ≡ literal.Number n t → Range t (pos n)
+literal_in-holds : (b : NumberBase) (body : List ℕ) (n : ℕ) (t : IntType) → literal_in b body ≡ literal.Number n t → Range t (pos n)
 literal_in-holds b body n t e = go (count == 0) e
   where
     count : ℕ
@@ -88,7 +88,7 @@ character-number value = go (nat_lt value 128) refl
     go true is = let small : value < 128 = grind (arith, nat_tests) in (omega (arith, ints), omega (arith, ints))
     go false is = let large : 128 ≤ value = grind (arith, nat_tests) in (omega (arith, ints), omega (arith, ints))
 
-token_number : (f : Front) (starts : Bool) (text item : List ℕ) (kind : TokenKind) → IsItemOf f starts text item (Some kind) → HasNumber kind
+token_number : (f : ItemFront) (starts : Bool) (text item : List ℕ) (kind : TokenKind) → IsItemOf f starts text item (Some kind) → HasNumber kind
 token_number front.Blank starts text item kind is = let no_kind = is.1 in cc
 token_number front.LineComment starts text item kind is = let no_kind = is.1 in cc
 token_number front.BlockComment starts text item kind is = let no_kind = is.3 in cc
@@ -107,7 +107,7 @@ token_number front.Mark starts text item kind is =
 -- ---- tokens have bytes
 
 -- what begins a text as a word is a byte of words
-front-word : (blank line block digit word : Bool) (others : Front) → (others ≡ front.Word → ⊥)
+front-word : (blank line block digit word : Bool) (others : ItemFront) → (others ≡ front.Word → ⊥)
     → cond blank front.Blank (cond line front.LineComment (cond block front.BlockComment (cond digit front.Number (cond word front.Word others)))) ≡ front.Word
     → word ≡ true
 front-word true line block digit word others no_word e = cc
@@ -145,7 +145,7 @@ word_has_bytes (b ∷ text) is none =
 no_literal : (n : ℕ) (t : IntType) → literal_of [] ≡ literal.Number n t → ⊥
 no_literal n t e = cc
 
-token_bytes : (f : Front) (starts : Bool) (text item rest : List ℕ) (kind : TokenKind) → front_of text ≡ f → text ≡ item ++ rest
+token_bytes : (f : ItemFront) (starts : Bool) (text item rest : List ℕ) (kind : TokenKind) → front_of text ≡ f → text ≡ item ++ rest
     → IsItemOf f starts text item (Some kind) → item ≡ [] → ⊥
 token_bytes front.Blank starts text item rest kind f_is text_is is none = let no_kind = is.1 in cc
 token_bytes front.LineComment starts text item rest kind f_is text_is is none = let no_kind = is.1 in cc

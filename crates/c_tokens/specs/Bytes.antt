@@ -4,8 +4,10 @@ use Rattle.std.specs.Char.{is_ascii_digit, is_ascii_hexdigit, is_ascii_alphanume
 use Rattle.c_tokens.specs.declared.bytes.ByteClass.{ByteClass}
 use Rattle.c_tokens.specs.declared.bytes.ByteClass.TheVariants as class
 
--- Blanks are space, tab, newline, vertical tab, form feed and carriage return (C17 6.4 paragraph 3). A line lasts up to a newline
--- (C17 5.1.1.2). Words are made of letters, digits and `_` (C17 6.4.2.1), numbers of these and `.` (C17 6.4.8). Digits are octal,
+-- Blanks are space, tab, newline, vertical tab, form feed and carriage return (C17 6.4 paragraph 3). A line lasts up to
+-- a newline
+-- (C17 5.1.1.2). Words are made of letters, digits and `_` (C17 6.4.2.1), numbers of these and `.` (C17 6.4.8). Digits
+-- are octal,
 -- decimal or hexadecimal (C17 6.4.4.1).
 abbrev pub is_in : ByteClass → ℕ → Bool
 is_in class.Blank b = b == 32 || (nat_le 9 b && nat_le b 13)

@@ -1,11 +1,37 @@
 -- The items that fill a text: blanks, comments, include lines and tokens (C17 5.1.1.2 paragraph 1, 6.4).
-use Rattle.std.specs.Prelude.{◌≡◌, ℕ, ◌+◌, ◌<◌, ◌≤◌, ◌==◌, ◌&&◌, ◌||◌, nat_eq, Bool, true, false, cond, List, take, drop, length, slice_index, Option, Some, None, Ok, Err, pos, codes}
+use Rattle.std.specs.Prelude.{
+  ◌≡◌,
+  ℕ,
+  ◌+◌,
+  ◌<◌,
+  ◌≤◌,
+  ◌==◌,
+  ◌&&◌,
+  ◌||◌,
+  nat_eq,
+  Bool,
+  true,
+  false,
+  cond,
+  List,
+  take,
+  drop,
+  length,
+  slice_index,
+  Option,
+  Some,
+  None,
+  Ok,
+  Err,
+  pos,
+  codes,
+}
 use Rattle.std.specs.List.{starts_with, list_all, take_while}
 use Rattle.int_ops.specs.declared.types.IntType.{IntType}
 use Rattle.int_ops.specs.declared.types.IntType.TheVariants as type
 use Rattle.c_tokens.specs.declared.bytes.ByteClass.TheVariants as class
-use Rattle.c_tokens.specs.declared.items.Front.{Front}
-use Rattle.c_tokens.specs.declared.items.Front.TheVariants as front
+use Rattle.c_tokens.specs.declared.items.ItemFront.{ItemFront}
+use Rattle.c_tokens.specs.declared.items.ItemFront.TheVariants as front
 use Rattle.c_tokens.specs.declared.literals.Literal.{Literal}
 use Rattle.c_tokens.specs.declared.literals.Literal.TheVariants as literal
 use Rattle.c_tokens.specs.declared.token.LeftWord.{LeftWord}
@@ -22,7 +48,7 @@ use Rattle.c_tokens.specs.Marks.{BeginsMark, IsLongestMark}
 use Rattle.c_tokens.specs.Words.{word_of}
 
 -- What can begin at the front of a text, told by its first bytes. Where a comment begins nothing else does (C17 6.4.9).
-abbrev pub front_of : List ℕ → Front
+abbrev pub front_of : List ℕ → ItemFront
 front_of text =
     let b = slice_index text 0 in
     let next = slice_index text 1 in
@@ -59,12 +85,14 @@ is_line bytes line = starts_with nat_eq line bytes && list_all (is_in class.Blan
 unfoldable pub is_include : List ℕ → Bool
 is_include line = is_line (codes "#include <stdio.h>") line || is_line (codes "#include <stdlib.h>") line
 
--- The bytes are the item that begins a text in this way, and this is the kind of the token that they are, if they are one. A word and
+-- The bytes are the item that begins a text in this way, and this is the kind of the token that they are, if they are
+-- one. A word and
 -- a number are the longest run of their bytes (C17 6.4 paragraph 4). An include line begins where a line begins.
-abbrev pub IsItemOf : Front → Bool → List ℕ → List ℕ → Option TokenKind → Type 0
+abbrev pub IsItemOf : ItemFront → Bool → List ℕ → List ℕ → Option TokenKind → Type 0
 IsItemOf front.Blank starts_line text item kind = (item ≡ take 1 text) × (kind ≡ None)
 IsItemOf front.LineComment starts_line text item kind = (item ≡ line_of text) × (kind ≡ None)
-IsItemOf front.BlockComment starts_line text item kind = (end : ℕ) × IsFirstEnd text end × (item ≡ take (end + 2) text) × (kind ≡ None)
+IsItemOf front.BlockComment starts_line text item kind =
+    (end : ℕ) × IsFirstEnd text end × (item ≡ take (end + 2) text) × (kind ≡ None)
 IsItemOf front.Number starts_line text item kind =
     (n : ℕ) × (t : IntType) × (item ≡ take_while (is_in class.Number) text) × (literal_of item ≡ literal.Number n t)
     × (kind ≡ Some (token_kind.Number (pos n) t))
@@ -75,7 +103,8 @@ IsItemOf front.Character starts_line text item kind =
 IsItemOf front.Hash starts_line text item kind =
     (item ≡ line_of text) × ((starts_line && is_include (line_of text)) ≡ true) × (kind ≡ None)
 IsItemOf front.Quote starts_line text item kind = ⊥
-IsItemOf front.Mark starts_line text item kind = (m : Punct) × IsLongestMark text item m × (kind ≡ Some (token_kind.Mark m))
+IsItemOf front.Mark starts_line text item kind =
+    (m : Punct) × IsLongestMark text item m × (kind ≡ Some (token_kind.Mark m))
 
 -- the fault of a run that begins as a number, if it is none (own)
 abbrev pub literal_fault : Literal → ℕ → Option LexFault
@@ -84,12 +113,13 @@ literal_fault literal.OutOfForm place = Some (fault.BadNumber place)
 literal_fault literal.TooBig place = Some (fault.BigLiteral place)
 
 -- No item begins the text, which stands at this place and begins in this way, and this is its fault (own).
-abbrev pub IsFaultOf : Front → Bool → List ℕ → ℕ → LexFault → Type 0
+abbrev pub IsFaultOf : ItemFront → Bool → List ℕ → ℕ → LexFault → Type 0
 IsFaultOf front.Blank starts_line text place found = ⊥
 IsFaultOf front.LineComment starts_line text place found = ⊥
 IsFaultOf front.BlockComment starts_line text place found =
     ((k : ℕ) → 2 ≤ k → EndsComment text k → ⊥) × (found ≡ fault.OpenComment place)
-IsFaultOf front.Number starts_line text place found = literal_fault (literal_of (take_while (is_in class.Number) text)) place ≡ Some found
+IsFaultOf front.Number starts_line text place found =
+    literal_fault (literal_of (take_while (is_in class.Number) text)) place ≡ Some found
 IsFaultOf front.Word starts_line text place found =
     (w : LeftWord) × (word_of (take_while (is_in class.Word) text) ≡ Err w) × (found ≡ fault.LeftOut w place)
 IsFaultOf front.Character starts_line text place found =

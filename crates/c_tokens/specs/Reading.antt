@@ -31,21 +31,25 @@ escape b =
 -- behind an octal digit
 abbrev pub second_octal : ℕ → ℕ → Step
 second_octal value b =
-    cond (nat_lt value 8 && is_in class.Octal b) (step.Goes (reading.OctalDigits (8 * value + digit_value b))) (close value b)
+    cond (nat_lt value 8 && is_in class.Octal b) (step.Goes (reading.OctalDigits (8 * value + digit_value b)))
+    (close value b)
 
 -- behind two octal digits
 abbrev pub third_octal : ℕ → ℕ → Step
 third_octal value b =
-    cond (nat_lt value 32 && is_in class.Octal b) (step.Goes (reading.Close (8 * value + digit_value b))) (close value b)
+    cond (nat_lt value 32 && is_in class.Octal b) (step.Goes (reading.Close (8 * value + digit_value b)))
+    (close value b)
 
 -- behind `\x`
 abbrev pub first_hexadecimal : ℕ → Step
-first_hexadecimal b = cond (is_in class.Hexadecimal b) (step.Goes (reading.HexadecimalDigit (digit_value b))) step.Misfit
+first_hexadecimal b =
+    cond (is_in class.Hexadecimal b) (step.Goes (reading.HexadecimalDigit (digit_value b))) step.Misfit
 
 -- behind a hexadecimal digit
 abbrev pub second_hexadecimal : ℕ → ℕ → Step
 second_hexadecimal value b =
-    cond (nat_lt value 16 && is_in class.Hexadecimal b) (step.Goes (reading.Close (16 * value + digit_value b))) (close value b)
+    cond (nat_lt value 16 && is_in class.Hexadecimal b) (step.Goes (reading.Close (16 * value + digit_value b)))
+    (close value b)
 
 -- what the next byte does to a character
 unfoldable pub next_step : Reading → ℕ → Step

@@ -21,11 +21,12 @@ pub record HasFault (text : List ℕ) (fault : LexFault) : Type 0 where
   pub no_list : (list : List Token) → Splits text list → ⊥
 
 -- what is refused has the fault that is named
-abbrev pub Refuses : List ℕ → Refusal LexFault → Type 0
-Refuses text (Refused fault) = HasFault text fault
-Refuses text NoMemory = Unit {0}
+abbrev pub ScanRefuses : List ℕ → Refusal LexFault → Type 0
+ScanRefuses text (Refused fault) = HasFault text fault
+ScanRefuses text NoMemory = Unit {0}
 
--- Up to a place items fill the text, and these are their tokens: what splits the rest of the text behind it, or fails there, does so in
+-- Up to a place items fill the text, and these are their tokens: what splits the rest of the text behind it, or fails
+-- there, does so in
 -- the whole text.
 pub record Reaches (text : List ℕ) (at : ℕ) (tokens : List Token) : Type 0 where
   pub fills : (rest : List Token) → Fills (take at text) (drop at text) rest → Splits text (tokens ++ rest)

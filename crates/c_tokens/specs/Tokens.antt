@@ -1,5 +1,24 @@
 -- The tokens of a text, and its faults (C17 6.4).
-use Rattle.std.specs.Prelude.{◌≡◌, ℕ, ◌+◌, ◌-◌, ◌<◌, ◌==◌, ◌||◌, Bool, List, [], ◌∷◌, ◌++◌, length, slice_index, count_by, Option, Some, None}
+use Rattle.std.specs.Prelude.{
+  ◌≡◌,
+  ℕ,
+  ◌+◌,
+  ◌-◌,
+  ◌<◌,
+  ◌==◌,
+  ◌||◌,
+  Bool,
+  List,
+  [],
+  ◌∷◌,
+  ◌++◌,
+  length,
+  slice_index,
+  count_by,
+  Option,
+  Some,
+  None,
+}
 use Rattle.c_tokens.specs.declared.token.LexFault.{LexFault}
 use Rattle.c_tokens.specs.declared.token.Token.{Token}
 use Rattle.c_tokens.specs.declared.token.TokenKind.{TokenKind}
@@ -31,13 +50,17 @@ token_at (Some kind) start end line = record { kind = kind; start = start; end =
 abbrev pub token_of : List ℕ → List ℕ → Option TokenKind → List Token
 token_of before item kind = token_at kind (length before) (length before + length item) (line_after before)
 
--- Behind a text, items fill the rest of the text one after another, and the list has their tokens in order (C17 5.1.1.2, 6.4).
+-- Behind a text, items fill the rest of the text one after another, and the list has their tokens in order (C17
+-- 5.1.1.2, 6.4).
 pub data Fills : List ℕ → List ℕ → List Token → Type 0 where
   ends : {before : List ℕ} → Fills before [] []
-  takes : {before text : List ℕ} (item rest : List ℕ) (kind : Option TokenKind) {list tokens : List Token} → text ≡ item ++ rest
-      → IsItem before text item kind → Fills (before ++ item) rest tokens → list ≡ token_of before item kind ++ tokens → Fills before text list
+  takes : {before text : List ℕ} (item rest : List ℕ) (kind : Option TokenKind) {list tokens : List Token} → text ≡
+      item ++ rest
+      → IsItem before text item kind → Fills (before ++ item) rest tokens → list ≡ token_of before item kind ++ tokens
+      → Fills before text list
 
--- Behind a text, items fill the rest of the text up to a place where none begins, and this is the fault of that place (own).
+-- Behind a text, items fill the rest of the text up to a place where none begins, and this is the fault of that place
+-- (own).
 pub data Fails : List ℕ → List ℕ → LexFault → Type 0 where
   here : {before text : List ℕ} {fault : LexFault} → IsFault before text fault → Fails before text fault
   later : {before text : List ℕ} (item rest : List ℕ) (kind : Option TokenKind) {fault : LexFault} → text ≡ item ++ rest

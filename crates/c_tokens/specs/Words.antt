@@ -67,7 +67,8 @@ abbrev pub look_up : {A : Type 0} → List (List ℕ × A) → List ℕ → Opti
 look_up [] word = None
 look_up (e ∷ es) word = cond (bytes_eq word e.0) (Some e.1) (look_up es word)
 
--- the first that is there: a keyword, `EOF`, a keyword that the language lacks; every other word is a name (C17 6.4.2.1 paragraph 4)
+-- the first that is there: a keyword, `EOF`, a keyword that the language lacks; every other word is a name (C17 6.4.2.1
+-- paragraph 4)
 abbrev pub first_of : Option Keyword → Bool → Option LeftWord → Result TokenKind LeftWord
 first_of (Some k) is_eof left = Ok (kind.Key k)
 first_of None true left = Ok kind.EofName

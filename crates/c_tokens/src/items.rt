@@ -33,7 +33,7 @@ use int_ops::IntType;
 
 /// What can begin at the front of a text, told by its first bytes.
 #[derive(Clone, Copy)]
-pub enum Front {
+pub enum ItemFront {
     Blank,
     LineComment,
     BlockComment,
@@ -53,32 +53,32 @@ pub struct Item {
 }
 
 /// What can begin at the front of the text.
-fn front_of(text: &[u8]) -> Front
+fn front_of(text: &[u8]) -> ItemFront
     ensures front { result ≡ spec.front_of text.now }
     ensures first { Begins result text.now }
 {
     let first = byte_at(text, 0);
     let next = byte_at(text, 1);
     if is_in(ByteClass::Blank, first) {
-        return Front::Blank;
+        return ItemFront::Blank;
     }
     if first == b'/' && next == b'/' {
-        return Front::LineComment;
+        return ItemFront::LineComment;
     }
     if first == b'/' && next == b'*' {
-        return Front::BlockComment;
+        return ItemFront::BlockComment;
     }
     if is_in(ByteClass::Decimal, first) {
-        return Front::Number;
+        return ItemFront::Number;
     }
     if is_in(ByteClass::Word, first) {
-        return Front::Word;
+        return ItemFront::Word;
     }
     match first {
-        b'\'' => Front::Character,
-        b'#' => Front::Hash,
-        b'"' => Front::Quote,
-        _ => Front::Mark,
+        b'\'' => ItemFront::Character,
+        b'#' => ItemFront::Hash,
+        b'"' => ItemFront::Quote,
+        _ => ItemFront::Mark,
     }
 }
 
@@ -106,7 +106,7 @@ fn comment_end(text: &[u8]) -> Option<usize>
 
 /// The comment from `/*` on.
 fn block_comment(text: &[u8], place: u32) -> Result<Item, LexFault>
-    ensures finds { (starts : Bool) → Finds Front.BlockComment starts text.now place result }
+    ensures finds { (starts : Bool) → Finds ItemFront.BlockComment starts text.now place result }
     ensures len { IfOk result (HasLen text.now) }
 {
     match comment_end(text) {
@@ -121,8 +121,8 @@ fn block_comment(text: &[u8], place: u32) -> Result<Item, LexFault>
 /// The number at the front of the text.
 fn number_item(text: &[u8], place: u32) -> Result<Item, LexFault>
     requires more { 0 < length text.now }
-    requires first { Begins Front.Number text.now }
-    ensures finds { (starts : Bool) → Finds Front.Number starts text.now place result }
+    requires first { Begins ItemFront.Number text.now }
+    ensures finds { (starts : Bool) → Finds ItemFront.Number starts text.now place result }
     ensures len { IfOk result (HasLen text.now) }
 {
     let len = run_len(ByteClass::Number, text);
@@ -139,8 +139,8 @@ fn number_item(text: &[u8], place: u32) -> Result<Item, LexFault>
 /// The word at the front of the text.
 fn word_item(text: &[u8], place: u32) -> Result<Item, LexFault>
     requires more { 0 < length text.now }
-    requires first { Begins Front.Word text.now }
-    ensures finds { (starts : Bool) → Finds Front.Word starts text.now place result }
+    requires first { Begins ItemFront.Word text.now }
+    ensures finds { (starts : Bool) → Finds ItemFront.Word starts text.now place result }
     ensures len { IfOk result (HasLen text.now) }
 {
     let len = run_len(ByteClass::Word, text);
@@ -164,7 +164,7 @@ fn signed_char(value: u8) -> i128
 /// The character at the front of the text.
 fn character_item(text: &[u8], place: u32) -> Result<Item, LexFault>
     requires { place + length text.now < 2 ^ 32 }
-    ensures finds { (starts : Bool) → Finds Front.Character starts text.now place result }
+    ensures finds { (starts : Bool) → Finds ItemFront.Character starts text.now place result }
     ensures len { IfOk result (HasLen text.now) }
 {
     match character(text) {
@@ -201,8 +201,8 @@ fn is_include(line: &[u8]) -> bool
 /// The include line from `#` on.
 fn include_line(text: &[u8], starts_line: bool, place: u32) -> Result<Item, LexFault>
     requires more { 0 < length text.now }
-    requires first { Begins Front.Hash text.now }
-    ensures finds { Finds Front.Hash starts_line text.now place result }
+    requires first { Begins ItemFront.Hash text.now }
+    ensures finds { Finds ItemFront.Hash starts_line text.now place result }
     ensures len { IfOk result (HasLen text.now) }
 {
     let len = run_len(ByteClass::Line, text);
@@ -215,7 +215,7 @@ fn include_line(text: &[u8], starts_line: bool, place: u32) -> Result<Item, LexF
 
 /// The mark at the front of the text.
 fn mark_item(text: &[u8], place: u32) -> Result<Item, LexFault>
-    ensures finds { (starts : Bool) → Finds Front.Mark starts text.now place result }
+    ensures finds { (starts : Bool) → Finds ItemFront.Mark starts text.now place result }
     ensures len { IfOk result (HasLen text.now) }
 {
     match longest_mark(text) {
@@ -235,17 +235,17 @@ pub fn item_at(text: &[u8], starts_line: bool, place: u32) -> Result<Item, LexFa
     ensures len { IfOk result (HasLen text.now) }
 {
     match front_of(text) {
-        Front::Blank => Ok(Item { len: 1, kind: None }),
-        Front::LineComment => Ok(Item {
+        ItemFront::Blank => Ok(Item { len: 1, kind: None }),
+        ItemFront::LineComment => Ok(Item {
             len: run_len(ByteClass::Line, text),
             kind: None,
         }),
-        Front::BlockComment => block_comment(text, place),
-        Front::Number => number_item(text, place),
-        Front::Word => word_item(text, place),
-        Front::Character => character_item(text, place),
-        Front::Hash => include_line(text, starts_line, place),
-        Front::Quote => Err(LexFault::LeftOut(LeftWord::Quote, place)),
-        Front::Mark => mark_item(text, place),
+        ItemFront::BlockComment => block_comment(text, place),
+        ItemFront::Number => number_item(text, place),
+        ItemFront::Word => word_item(text, place),
+        ItemFront::Character => character_item(text, place),
+        ItemFront::Hash => include_line(text, starts_line, place),
+        ItemFront::Quote => Err(LexFault::LeftOut(LeftWord::Quote, place)),
+        ItemFront::Mark => mark_item(text, place),
     }
 }

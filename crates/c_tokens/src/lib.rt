@@ -10,5 +10,5 @@ mod scanner;
 pub mod token;
 mod words;
 
-pub use scanner::{MOST_BYTES, scan};
+pub use scanner::scan;
 pub use token::{Keyword, LeftWord, LexFault, Punct, Token, TokenKind};

@@ -8,11 +8,11 @@ ghost use Rattle.c_tokens.specs.Words.{look_up};
 
 use crate::bytes::{ByteClass, byte_at, run_len};
 use crate::words::look_up;
-use int_ops::{IntType, is_of};
+use int_ops::{IntType, is_in_range};
 
 /// How the digits of a number are read.
 #[derive(Clone, Copy)]
-pub enum Base {
+pub enum NumberBase {
     Octal,
     Decimal,
     Hexadecimal,
@@ -55,49 +55,49 @@ const SUFFIXES: [(&[u8], Suffix); 13] = [
 ];
 
 /// How a number's digits are read, by its first two bytes.
-fn base_of(run: &[u8]) -> Base
+fn base_of(run: &[u8]) -> NumberBase
     ensures value { result ≡ spec.base_of run.now }
     ensures within { spec.digits_start result ≤ length run.now }
 {
     if byte_at(run, 0) != b'0' {
-        return Base::Decimal;
+        return NumberBase::Decimal;
     }
     match byte_at(run, 1) {
-        b'x' => Base::Hexadecimal,
-        b'X' => Base::Hexadecimal,
-        _ => Base::Octal,
+        b'x' => NumberBase::Hexadecimal,
+        b'X' => NumberBase::Hexadecimal,
+        _ => NumberBase::Octal,
     }
 }
 
 /// How many bytes stand before the digits.
-fn digits_start(base: Base) -> usize
+fn digits_start(base: NumberBase) -> usize
     ensures { result ≡ spec.digits_start base }
 {
     match base {
-        Base::Hexadecimal => 2,
+        NumberBase::Hexadecimal => 2,
         _ => 0,
     }
 }
 
 /// The digits of a base.
-fn digit_class(base: Base) -> ByteClass
+fn digit_class(base: NumberBase) -> ByteClass
     ensures { result ≡ spec.digit_class base }
 {
     match base {
-        Base::Octal => ByteClass::Octal,
-        Base::Decimal => ByteClass::Decimal,
-        Base::Hexadecimal => ByteClass::Hexadecimal,
+        NumberBase::Octal => ByteClass::Octal,
+        NumberBase::Decimal => ByteClass::Decimal,
+        NumberBase::Hexadecimal => ByteClass::Hexadecimal,
     }
 }
 
 /// How many digits a base has.
-fn radix(base: Base) -> u64
+fn radix(base: NumberBase) -> u64
     ensures { result ≡ spec.radix base }
 {
     match base {
-        Base::Octal => 8,
-        Base::Decimal => 10,
-        Base::Hexadecimal => 16,
+        NumberBase::Octal => 8,
+        NumberBase::Decimal => 10,
+        NumberBase::Hexadecimal => 16,
     }
 }
 
@@ -145,11 +145,11 @@ fn suffix_of(rest: &[u8]) -> Option<Suffix>
 }
 
 /// The types that a number may have, in the order in which they are tried.
-fn types_of(base: Base, suffix: Suffix) -> &'static [IntType]
+fn types_of(base: NumberBase, suffix: Suffix) -> &'static [IntType]
     ensures { result.now ≡ spec.types_of base suffix }
 {
     match (base, suffix) {
-        (Base::Decimal, Suffix::Plain) => &[IntType::Int, IntType::Long],
+        (NumberBase::Decimal, Suffix::Plain) => &[IntType::Int, IntType::Long],
         (_, Suffix::Plain) => &[
             IntType::Int,
             IntType::UnsignedInt,
@@ -157,7 +157,7 @@ fn types_of(base: Base, suffix: Suffix) -> &'static [IntType]
             IntType::UnsignedLong,
         ],
         (_, Suffix::Unsigned) => &[IntType::UnsignedInt, IntType::UnsignedLong],
-        (Base::Decimal, Suffix::Long) => &[IntType::Long],
+        (NumberBase::Decimal, Suffix::Long) => &[IntType::Long],
         (_, Suffix::Long) => &[IntType::Long, IntType::UnsignedLong],
         (_, Suffix::UnsignedLong) => &[IntType::UnsignedLong],
     }
@@ -168,7 +168,7 @@ fn typed(number: u64, types: &[IntType]) -> Literal
     ensures { result ≡ spec.typed (find (λ t. is_in_range t (pos number)) types.now) number }
 {
     for number_type in types {
-        if is_of(*number_type, i128::from(number)) {
+        if is_in_range(*number_type, i128::from(number)) {
             return Literal::Number(number, *number_type);
         }
     }
@@ -176,7 +176,7 @@ fn typed(number: u64, types: &[IntType]) -> Literal
 }
 
 /// What digits and a suffix spell in a base.
-fn literal_in(base: Base, body: &[u8]) -> Literal
+fn literal_in(base: NumberBase, body: &[u8]) -> Literal
     ensures { result ≡ spec.literal_in base body.now }
 {
     let count = run_len(digit_class(base), body);

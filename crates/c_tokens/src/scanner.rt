@@ -16,15 +16,12 @@ ghost use Rattle.std.specs.Prelude.{
   IfErr,
 };
 ghost use Rattle.c_tokens.specs.Tokens.{token_at, starts_line as is_line_start, line_after};
-ghost use Rattle.c_tokens.specs.Scans.{HasTokens, Refuses, Reaches, RefusesAt};
+ghost use Rattle.c_tokens.specs.Scans.{HasTokens, ScanRefuses, Reaches, RefusesAt};
 
 use crate::items::item_at;
 use crate::token::{LexFault, Token, TokenKind};
-use cov_base::Refusal;
+use cov_base::{Refusal, SOURCE_LIMIT};
 use std::alloc::{AllocError, Global};
-
-/// The most bytes that a text may have.
-pub const MOST_BYTES: usize = 1_048_576;
 
 /// How far a text is cut, and the line of that place.
 #[derive(Clone, Copy)]
@@ -73,7 +70,7 @@ fn push_token(
 /// Takes the item at a place, and gives the place behind it.
 fn take_item(text: &[u8], place: Place, tokens: &mut Vec<Token>) -> Result<Place, Refusal<LexFault>>
     requires inside { place.at < length text.now }
-    requires size { length text.now ≤ MOST_BYTES }
+    requires size { length text.now ≤ SOURCE_LIMIT }
     requires line { place.line ≡ line_after (take place.at text.now) }
     ensures moves { IfOk result (λ next. (place.at < next.at) × (next.at ≤ length text.now)) }
     ensures line { IfOk result (λ next. next.line ≡ line_after (take next.at text.now)) }
@@ -98,9 +95,9 @@ fn take_item(text: &[u8], place: Place, tokens: &mut Vec<Token>) -> Result<Place
 
 /// The tokens of a text, or the fault that stands in it. `NoMemory` may come instead of either.
 pub fn scan(alloc: Global, text: &[u8]) -> Result<Vec<Token>, Refusal<LexFault>>
-    requires { length text.now ≤ MOST_BYTES }
+    requires { length text.now ≤ SOURCE_LIMIT }
     ensures ok { IfOk result (λ list. HasTokens text.now list.items) }
-    ensures err { IfErr result (Refuses text.now) }
+    ensures err { IfErr result (ScanRefuses text.now) }
 {
     let mut tokens = Vec::new(alloc);
     let mut place = Place { at: 0, line: 1 };

@@ -2,7 +2,8 @@
 use Rattle.std.proofs.Common.{arith, ◌≡◌, sym, ap, ◌∙◌, ℕ, suc, zero, ◌+◌, ◌<◌, ◌≤◌, List, [], ◌∷◌, ◌++◌, length, get_or, Option}
 use Rattle.std.specs.Prelude.{Contains}
 use Rattle.c_tree.specs.declared.typed_expr.CellAt.TheVariants as cell
-use Rattle.c_tree.specs.Sound.{Variable, Each, IsLength, cells_of, standing}
+use Rattle.c_tree.specs.Sound.{Variable, Each, IsLength, standing}
+use Rattle.c_tree.specs.TypedParts.{cells_of}
 
 absent_at : (vs : List Variable) (v : Variable) (k : ℕ) → Each (λ w. w ≡ v → ⊥) vs → k < length vs → get_or vs k v ≡ v → ⊥
 absent_at [] v k others less at = omega arith

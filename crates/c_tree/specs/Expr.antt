@@ -9,6 +9,7 @@ mutual
   pub data Expr : Type 0 where
     At : Kind → ℕ → ℕ → Expr
 
+  -- the form of an expression
   pub data Kind : Type 0 where
     Name : List ℕ → Kind
     Number : ℤ → IntType → Kind

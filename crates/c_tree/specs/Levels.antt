@@ -1,5 +1,5 @@
--- How deep a tree goes: the greatest number of statements and expressions on a way to a leaf. Parentheses count, a conversion
--- that the source doesn't write doesn't.
+-- How deep a tree goes: the greatest number of statements and expressions on a way to a leaf. Parentheses count, a
+-- conversion that the source doesn't write doesn't.
 use Rattle.std.specs.Prelude.{ℕ, ◌+◌, max, List, [], ◌∷◌, Option, Some, None}
 use Rattle.c_tree.specs.Expr.{Expr, Kind, Exprs}
 use Rattle.c_tree.specs.Stmt.{Size, Init, Var, Stmt, OtherStmt, ForHead, Stmts, SwitchItem, SwitchItems}
@@ -55,11 +55,13 @@ abbrev pub size_levels : Size → ℕ
 size_levels (Size.Len e) = levels e
 size_levels _ = 0
 
+-- the levels of an initialiser
 abbrev pub init_levels : Init → ℕ
 init_levels Init.Absent = 0
 init_levels (Init.One e) = levels e
 init_levels (Init.Several es) = most levels es
 
+-- the levels of a variable
 abbrev pub var_levels : Var → ℕ
 var_levels v = max (size_levels v.size) (init_levels v.init)
 
@@ -79,26 +81,32 @@ abbrev mutual
   stmt_levels (Stmt.Continue place line) = 1
   stmt_levels (Stmt.Return e place line) = 1 + levels_if e
 
+  -- of a statement that may be left out
   pub other_levels : OtherStmt → ℕ
   other_levels OtherStmt.Nothing = 0
   other_levels (OtherStmt.There s) = stmt_levels s
 
+  -- of the parentheses of a `for`
   pub head_levels : ForHead → ℕ
   head_levels (ForHead.Head first test step) = max (other_levels first) (max (levels_if test) (levels_if step))
 
+  -- of statements: those of the deepest
   pub stmts_levels : Stmts → ℕ
   stmts_levels Stmts.End = 0
   stmts_levels (Stmts.More s ss) = max (stmt_levels s) (stmts_levels ss)
 
+  -- of a label or an item of a `switch`
   pub item_levels : SwitchItem → ℕ
   item_levels (SwitchItem.Case e place) = levels e
   item_levels (SwitchItem.Default place) = 0
   item_levels (SwitchItem.Item s) = stmt_levels s
 
+  -- of labels and items: those of the deepest
   pub items_levels : SwitchItems → ℕ
   items_levels SwitchItems.Last = 0
   items_levels (SwitchItems.Further i is) = max (item_levels i) (items_levels is)
 
+-- the levels of a part of a source
 abbrev pub outer_levels : Outer → ℕ
 outer_levels (Outer.Vars vars) = most var_levels vars
 outer_levels (Outer.Prototype head) = 0
@@ -135,14 +143,17 @@ abbrev mutual
   typed_kind_levels (TypedKind.After op e) = 1 + typed_levels e
   typed_kind_levels (TypedKind.Comma a b) = 1 + max (typed_levels a) (typed_levels b)
 
+  -- of arguments: those of the deepest
   pub typed_args_levels : TypedExprs → ℕ
   typed_args_levels TypedExprs.End = 0
   typed_args_levels (TypedExprs.More e es) = max (typed_levels e) (typed_args_levels es)
 
+-- the levels of an expression that may be left out
 abbrev pub typed_levels_if : Option TypedExpr → ℕ
 typed_levels_if None = 0
 typed_levels_if (Some e) = typed_levels e
 
+-- the levels of an initialiser
 abbrev pub typed_init_levels : TypedInit → ℕ
 typed_init_levels TypedInit.Absent = 0
 typed_init_levels (TypedInit.One e) = typed_levels e
@@ -155,7 +166,8 @@ abbrev mutual
   typed_stmt_levels (TypedStmt.Block ss) = 1 + typed_stmts_levels ss
   typed_stmt_levels TypedStmt.Empty = 1
   typed_stmt_levels (TypedStmt.Value e) = 1 + typed_levels e
-  typed_stmt_levels (TypedStmt.If e s other) = 1 + max (typed_levels e) (max (typed_stmt_levels s) (other_typed_levels other))
+  typed_stmt_levels (TypedStmt.If e s other) =
+      1 + max (typed_levels e) (max (typed_stmt_levels s) (other_typed_levels other))
   typed_stmt_levels (TypedStmt.While e s) = 1 + max (typed_levels e) (typed_stmt_levels s)
   typed_stmt_levels (TypedStmt.DoWhile s e line) = 1 + max (typed_stmt_levels s) (typed_levels e)
   typed_stmt_levels (TypedStmt.For head s) = 1 + max (typed_head_levels head) (typed_stmt_levels s)
@@ -164,23 +176,28 @@ abbrev mutual
   typed_stmt_levels (TypedStmt.Continue place line) = 1
   typed_stmt_levels (TypedStmt.Return e place line) = 1 + typed_levels_if e
 
+  -- of a statement that may be left out
   pub other_typed_levels : OtherTyped → ℕ
   other_typed_levels OtherTyped.Nothing = 0
   other_typed_levels (OtherTyped.There s) = typed_stmt_levels s
 
+  -- of the parentheses of a `for`
   pub typed_head_levels : TypedForHead → ℕ
   typed_head_levels (TypedForHead.Head first test step) =
       max (other_typed_levels first) (max (typed_levels_if test) (typed_levels_if step))
 
+  -- of statements: those of the deepest
   pub typed_stmts_levels : TypedStmts → ℕ
   typed_stmts_levels TypedStmts.End = 0
   typed_stmts_levels (TypedStmts.More s ss) = max (typed_stmt_levels s) (typed_stmts_levels ss)
 
+  -- of a label or an item of a `switch`
   pub typed_item_levels : TypedItem → ℕ
   typed_item_levels (TypedItem.Case number place) = 0
   typed_item_levels (TypedItem.Default place) = 0
   typed_item_levels (TypedItem.Item s) = typed_stmt_levels s
 
+  -- of labels and items: those of the deepest
   pub typed_items_levels : TypedItems → ℕ
   typed_items_levels TypedItems.Last = 0
   typed_items_levels (TypedItems.Further i is) = max (typed_item_levels i) (typed_items_levels is)

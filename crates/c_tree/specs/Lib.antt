@@ -1,4 +1,5 @@
 pub mod Expr
+pub mod Formed
 pub mod Levels
 pub mod Runs
 pub mod Sound
@@ -7,5 +8,6 @@ pub mod Tree
 pub mod TreeView
 pub mod Typed
 pub mod TypedExpr
+pub mod TypedParts
 pub mod TypedStmt
 pub mod TypedView

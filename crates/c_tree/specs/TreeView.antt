@@ -71,7 +71,14 @@ init_view (InitHeld.List es) = Init.Several (map expr_view es)
 
 -- a variable
 abbrev pub var_view : VarHeld → Var
-var_view v = record { base = v.base; name = v.name; size = size_view v.size; init = init_view v.init; place = v.place; line = v.line }
+var_view v = record {
+  base = v.base;
+  name = v.name;
+  size = size_view v.size;
+  init = init_view v.init;
+  place = v.place;
+  line = v.line;
+}
 
 -- the list of statements with these members
 abbrev pub stmts_of : List Stmt → Stmts
@@ -125,7 +132,8 @@ item_view (ItemHeld.Item s) = SwitchItem.Item (stmt_view s)
 
 -- the parentheses of a `for` that the program holds
 abbrev pub for_view : ForHeld → ForHead
-for_view h = ForHead.Head (other_of (option_map stmt_view h.first)) (option_map expr_view h.test) (option_map expr_view h.step)
+for_view h =
+    ForHead.Head (other_of (option_map stmt_view h.first)) (option_map expr_view h.test) (option_map expr_view h.step)
 
 -- a parameter
 abbrev pub param_view : ParamHeld → Param

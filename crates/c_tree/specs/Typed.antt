@@ -13,7 +13,8 @@ pub record TypedFunction : Type 0 where
   pub cells : ℕ
   pub body : TypedStmts
 
--- A source: its functions in the order of their definitions, the numbers that its globals begin with, and the number of `main`.
+-- A source: its functions in the order of their definitions, the numbers that its globals begin with, and the number of
+-- `main`.
 pub record Typed : Type 0 where
   pub functions : List TypedFunction
   pub globals : List ℤ

@@ -11,6 +11,7 @@ mutual
   pub data TypedExpr : Type 0 where
     At : TypedKind → Base → ℕ → ℕ → TypedExpr
 
+  -- the form of an expression
   pub data TypedKind : Type 0 where
     Name : CellAt → TypedKind
     Number : ℤ → IntType → TypedKind

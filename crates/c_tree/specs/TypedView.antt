@@ -10,7 +10,16 @@ use Rattle.c_tree.specs.declared.typed_stmt.TypedStmt.TheOpen.{TypedStmt-F, Type
 use Rattle.c_tree.specs.declared.typed.TypedFunction.{TypedFunction as FunctionHeld}
 use Rattle.c_tree.specs.declared.typed.Typed.{Typed as TypedHeld}
 use Rattle.c_tree.specs.TypedExpr.{TypedExpr, TypedKind, TypedExprs}
-use Rattle.c_tree.specs.TypedStmt.{TypedInit, TypedVar, TypedStmt, OtherTyped, TypedForHead, TypedStmts, TypedItem, TypedItems}
+use Rattle.c_tree.specs.TypedStmt.{
+  TypedInit,
+  TypedVar,
+  TypedStmt,
+  OtherTyped,
+  TypedForHead,
+  TypedStmts,
+  TypedItem,
+  TypedItems,
+}
 use Rattle.c_tree.specs.Typed.{TypedFunction, Typed}
 
 -- the list of expressions with these members
@@ -61,7 +70,14 @@ typed_init_view (InitHeld.List es) = TypedInit.Several (map typed_expr_view es)
 -- a variable
 abbrev pub typed_var_view : VarHeld → TypedVar
 typed_var_view v =
-    record { cell = v.cell; number_type = v.number_type; length = v.length; init = typed_init_view v.init; place = v.place; line = v.line }
+    record {
+      cell = v.cell;
+      number_type = v.number_type;
+      length = v.length;
+      init = typed_init_view v.init;
+      place = v.place;
+      line = v.line;
+    }
 
 -- the list of statements with these members
 abbrev pub typed_stmts_of : List TypedStmt → TypedStmts
@@ -95,7 +111,8 @@ typed_stmt_step (TypedStmt-F.Return e place line) = TypedStmt.Return (option_map
 
 -- the parentheses of a `for` whose parts are seen
 abbrev pub typed_head_step : TypedForHead-F TypedStmt TypedItem TypedForHead → TypedForHead
-typed_head_step h = TypedForHead.Head (other_typed_of h.first) (option_map typed_expr_view h.test) (option_map typed_expr_view h.step)
+typed_head_step h =
+    TypedForHead.Head (other_typed_of h.first) (option_map typed_expr_view h.test) (option_map typed_expr_view h.step)
 
 -- a label or an item whose parts are seen
 abbrev pub typed_item_step : TypedSwitchItem-F TypedStmt TypedItem TypedForHead → TypedItem
@@ -110,7 +127,15 @@ typed_stmt_view = fold-TypedStmt TypedStmt TypedItem TypedForHead typed_stmt_ste
 -- a function
 abbrev pub function_view : FunctionHeld → TypedFunction
 function_view f =
-    record { name = f.name; line = f.line; result = f.result; params = f.params; cells = f.cells; body = typed_stmts_of (map typed_stmt_view f.body) }
+    record {
+      name = f.name;
+      line = f.line;
+      result = f.result;
+      params = f.params;
+      cells = f.cells;
+      body = typed_stmts_of
+          (map typed_stmt_view f.body);
+    }
 
 -- the typed tree that the program holds
 abbrev pub typed_view : TypedHeld → Typed

@@ -8,7 +8,7 @@ use std::marker::Model;
 
 /// A number, and how often it stands there in a row.
 #[derive(Clone, Copy, Debug, PartialEq, Eq)]
-pub struct Run {
+pub struct NumberRun {
     pub number: i128,
     pub count: u64,
 }
@@ -16,7 +16,7 @@ pub struct Run {
 /// A list of numbers, held as runs of equal ones, since a short text can ask for a long list.
 #[derive(Debug, Drop)]
 pub struct Globals {
-    runs: Vec<Run>,
+    runs: Vec<NumberRun>,
     total: u64,
 }
 
@@ -49,7 +49,7 @@ impl Globals {
         ensures ok { OnOk result (self.new ≡ self.old ++ replicate count number) }
         ensures err { OnErr result (self.new ≡ self.old) }
     {
-        self.runs.push(Run { number, count })?;
+        self.runs.push(NumberRun { number, count })?;
         self.total += count;
         Ok(())
     }
@@ -62,7 +62,7 @@ impl Globals {
     }
 
     /// The runs, one behind another.
-    pub fn runs(&self) -> &[Run]
+    pub fn runs(&self) -> &[NumberRun]
         ensures { all_of result.now ≡ self.now }
     {
         &self.runs

@@ -14,8 +14,9 @@ pub mod typed_expr;
 pub mod typed_stmt;
 
 pub use expr::{Base, Expr, ExprKind};
-pub use globals::{Globals, Run};
+pub use globals::{Globals, NumberRun};
 pub use ident::Ident;
+pub use sqlite_items::{Boxed, Items};
 pub use stmt::{ForHead, Init, Size, Stmt, SwitchItem, Var};
 pub use tree::{Head, Outer, Param, Tree};
 pub use typed::{Typed, TypedFunction};

@@ -86,7 +86,8 @@ pub fn for_(alloc: Global, head: ForHead, body: Stmt) -> Result<Stmt, AllocError
 
 /// `switch (` value `) {` items `}`
 pub fn switch(value: Boxed<Expr>, items: Items<SwitchItem>) -> Stmt
-    ensures { stmt_view result ≡ StmtSeen.Switch (expr_view value) (items_of (map item_view items)) }
+    ensures { stmt_view result
+        ≡ StmtSeen.Switch (expr_view value) (items_of (map item_view items)) }
 {
     Stmt::Switch(value, items)
 }

@@ -203,7 +203,7 @@ right-from_others arc h = cond-false _ _ _ (ne_eqb arc.from 0 (λ e. omega arith
 placed-from_real : (arc : FlowArc) → arc.kind ≡ Real → is_misplaced arc ≡ false
 placed-from_real arc h = and_left _ _ (ap (λ k. not (is_real k)) h)
 
-Suit-from_ascend : (block : ℕ) (lists : List (List ℕ)) → 2 ≤ block → All (λ list. ascends 0 list ≡ true) lists → Suit block lists
+pub Suit-from_ascend : (block : ℕ) (lists : List (List ℕ)) → 2 ≤ block → All (λ list. ascends 0 list ≡ true) lists → Suit block lists
 Suit-from_ascend block [] low h = tt
 Suit-from_ascend block (list ∷ lists) low h = (
   cond-false _ _ _ (le-ltb block 2 low) ∙ All-head (λ l. ascends 0 l ≡ true) list lists h,

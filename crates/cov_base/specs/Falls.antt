@@ -10,5 +10,5 @@ is_real Real = true
 is_real CallExit = false
 
 -- control falls through along a real arc that leaves the entry or enters the next block
-abbrev pub falls_of : FlowArc → Bool
-falls_of arc = is_real arc.kind && ((arc.from == 0) || (arc.to == arc.from + 1))
+abbrev pub falls : FlowArc → Bool
+falls arc = is_real arc.kind && ((arc.from == 0) || (arc.to == arc.from + 1))

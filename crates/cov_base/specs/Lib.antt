@@ -1,4 +1,5 @@
 pub mod Falls
+pub mod Limits
 pub mod Net
 pub mod Reach
 pub mod Walks

@@ -1,9 +1,39 @@
 -- What makes blocks, arcs and lines a net, and the first fault where they make none.
-use Rattle.std.specs.Prelude.{◌≡◌, ℕ, ◌+◌, ◌<◌, ◌≤◌, zero, suc, Bool, true, not, ◌&&◌, ◌||◌, ◌==◌, if◌then◌else◌, nat_lt, nat_le, ◌⊎◌, List, [], ◌∷◌, length, Option, Some, None, IsTrue, Result, Ok, Err}
+use Rattle.std.specs.Prelude.{
+  ◌≡◌,
+  ℕ,
+  ◌+◌,
+  ◌<◌,
+  ◌≤◌,
+  zero,
+  suc,
+  Bool,
+  true,
+  not,
+  ◌&&◌,
+  ◌||◌,
+  ◌==◌,
+  if◌then◌else◌,
+  nat_lt,
+  nat_le,
+  ◌⊎◌,
+  List,
+  [],
+  ◌∷◌,
+  length,
+  Option,
+  Some,
+  None,
+  IsTrue,
+  Result,
+  Ok,
+  Err,
+}
 use Rattle.std.specs.Option.{option_or, option_map}
 use Rattle.std.specs.List.{list_any, position}
 use Rattle.std.specs.declared.alloc.AllocError.{AllocError}
 use Rattle.cov_base.specs.Falls.{is_real}
+use Rattle.cov_base.specs.Limits.{arc_limit, block_limit}
 use Rattle.cov_base.specs.declared.net.FlowArc.{FlowArc}
 use Rattle.cov_base.specs.declared.net.NetFault.{NetFault}
 use Rattle.cov_base.specs.declared.net.NetFault.TheVariants as fault
@@ -24,7 +54,8 @@ is_outside blocks arc = nat_le blocks arc.from || nat_le blocks arc.to || (arc.t
 abbrev pub is_above : FlowArc → FlowArc → Bool
 is_above arc before = nat_lt before.from arc.from || ((before.from == arc.from) && nat_lt before.to arc.to)
 
--- of these arcs, the first of which has index i and stands behind another: the index of the first that is not above the one before it
+-- of these arcs, the first of which has index i and stands behind another: the index of the first that is not above the
+-- one before it
 abbrev pub unordered_after : FlowArc → ℕ → List FlowArc → Option ℕ
 unordered_after before i [] = None
 unordered_after before i (arc ∷ arcs) = if is_above arc before then unordered_after arc (i + 1) arcs else Some i
@@ -67,16 +98,18 @@ is_bare lines = length lines == 0
 abbrev pub suits : ℕ → List ℕ → Bool
 suits block lines = if nat_lt block 2 then is_bare lines else ascends 0 lines
 
--- of these lists, the first of which is that of `block`: the first block whose list is missing or doesn't suit it, or the number of blocks where a list is too many
+-- of these lists, the first of which is that of `block`: the first block whose list is missing or doesn't suit it, or
+-- the number of blocks where a list is too many
 abbrev pub first_wrong_list : ℕ → ℕ → List (List ℕ) → Option ℕ
 first_wrong_list block blocks [] = if nat_lt block blocks then Some block else None
-first_wrong_list block blocks (list ∷ lists) = if nat_lt block blocks && suits block list then first_wrong_list (block + 1) blocks lists else Some block
+first_wrong_list block blocks (list ∷ lists) =
+    if nat_lt block blocks && suits block list then first_wrong_list (block + 1) blocks lists else Some block
 
 -- the first fault that can be told without following arcs
 abbrev pub shape_fault : NetValue → Option NetFault
 shape_fault net =
-    option_or (if nat_lt net.blocks 3 || nat_lt 512 net.blocks then Some (fault.Blocks net.blocks) else None)
-    (option_or (if nat_lt 4096 (length net.arcs) then Some (fault.Arcs (length net.arcs)) else None)
+    option_or (if nat_lt net.blocks 3 || nat_lt block_limit net.blocks then Some (fault.Blocks net.blocks) else None)
+    (option_or (if nat_lt arc_limit (length net.arcs) then Some (fault.Arcs (length net.arcs)) else None)
     (option_or (option_map fault.Range (position (is_outside net.blocks) net.arcs))
     (option_or (option_map fault.Order (first_unordered net.arcs))
     (option_or (option_map fault.Entry (first_wrong_entry net.arcs))

@@ -1,5 +1,21 @@
 -- Marks of the blocks that are reached, spread along arcs.
-use Rattle.std.specs.Prelude.{◌≡◌, ℕ, ◌<◌, ◌≤◌, Bool, true, false, not, ◌&&◌, if◌then◌else◌, nat_lt, List, length, slice_index_or, slice_set}
+use Rattle.std.specs.Prelude.{
+  ◌≡◌,
+  ℕ,
+  ◌<◌,
+  ◌≤◌,
+  Bool,
+  true,
+  false,
+  not,
+  ◌&&◌,
+  if◌then◌else◌,
+  nat_lt,
+  List,
+  length,
+  slice_index_or,
+  slice_set,
+}
 use Rattle.std.specs.List.{list_any}
 use Rattle.cov_base.specs.Net.{IsReached}
 use Rattle.cov_base.specs.declared.net.FlowArc.{FlowArc}

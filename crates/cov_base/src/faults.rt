@@ -1,31 +1,16 @@
 //! The first fault of blocks, arcs and lines that make no net.
 
 ghost use Rattle.std.specs.Prelude.{◌≡◌, ◌^◌, ◌<◌, ◌≤◌, length, map, position, IfSome};
-ghost use Rattle.cov_base.specs.Net.{
-  is_above,
-  is_outside,
-  is_wrong_entry,
-  is_misplaced,
-  ascends,
-  suits,
-  first_unordered,
-  first_wrong_entry,
-  first_wrong_list,
-  has_arc,
-  joins,
-  shape_fault,
-  Finds,
-};
+ghost use Rattle.cov_base.specs.Net as spec;
+ghost use Rattle.cov_base.specs.Net.{Finds};
 
+use crate::limits::{ARC_LIMIT, BLOCK_LIMIT};
 use crate::net::{ArcKind, FlowArc, NetFault};
 use crate::reach::first_apart;
 use std::alloc::{AllocError, Global};
 
+/// The entry, the exit and one block between them.
 const LEAST_BLOCKS: u32 = 3;
-
-const MOST_BLOCKS: u32 = 512;
-
-const MOST_ARCS: usize = 4096;
 
 /// The first fault in the order of `NetFault`, or `None` where the parts make a net.
 pub fn first_fault(
@@ -40,63 +25,63 @@ pub fn first_fault(
         (record { blocks = blocks; arcs = arcs.now; lines = map (λ v. v.items) lines.now })
         result }
 {
-    if let Some(fault) = fault_of_shape(blocks, arcs, lines) {
+    if let Some(fault) = shape_fault(blocks, arcs, lines) {
         return Ok(Some(fault));
     }
     let apart = first_apart(alloc, blocks, arcs)?;
     Ok(apart.map(NetFault::Apart))
 }
 
-fn fault_of_shape(blocks: u32, arcs: &[FlowArc], lines: &[Vec<u32>]) -> Option<NetFault>
+fn shape_fault(blocks: u32, arcs: &[FlowArc], lines: &[Vec<u32>]) -> Option<NetFault>
     requires arcs_fit { length arcs.now < 2 ^ 32 }
     requires lines_fit { length lines.now < 2 ^ 32 }
     ensures { result
-        ≡ shape_fault
+        ≡ spec.shape_fault
         (record { blocks = blocks; arcs = arcs.now; lines = map (λ v. v.items) lines.now }) }
 {
-    if blocks < LEAST_BLOCKS || blocks > MOST_BLOCKS {
+    if blocks < LEAST_BLOCKS || blocks > BLOCK_LIMIT {
         return Some(NetFault::Blocks(blocks));
     }
-    if arcs.len() > MOST_ARCS {
+    if arcs.len() > ARC_LIMIT {
         return Some(NetFault::Arcs(arcs.len() as u32));
     }
     if let Some(i) = first_outside(blocks, arcs) {
         return Some(NetFault::Range(i as u32));
     }
-    if let Some(i) = first_out_of_order(arcs) {
+    if let Some(i) = first_unordered(arcs) {
         return Some(NetFault::Order(i as u32));
     }
-    if let Some(i) = entry_fault(arcs) {
+    if let Some(i) = first_wrong_entry(arcs) {
         return Some(NetFault::Entry(i as u32));
     }
     if let Some(i) = first_misplaced(arcs) {
         return Some(NetFault::Kind(i as u32));
     }
-    let block = first_unsuited(blocks, lines)?;
+    let block = first_wrong_list(blocks, lines)?;
     Some(NetFault::Lines(block as u32))
 }
 
 fn first_outside(blocks: u32, arcs: &[FlowArc]) -> Option<usize>
-    ensures value { result ≡ position (is_outside blocks) arcs.now }
+    ensures value { result ≡ position (spec.is_outside blocks) arcs.now }
     ensures bound { IfSome result (λ i. i < length arcs.now) }
 {
-    arcs.iter().position(|arc| outside(blocks, arc))
+    arcs.iter().position(|arc| is_outside(blocks, arc))
 }
 
-fn outside(blocks: u32, arc: &FlowArc) -> bool
-    ensures { result ≡ is_outside blocks arc.now }
+fn is_outside(blocks: u32, arc: &FlowArc) -> bool
+    ensures { result ≡ spec.is_outside blocks arc.now }
 {
     arc.from >= blocks || arc.to >= blocks || arc.to == 0 || arc.from == 1
 }
 
-fn first_out_of_order(arcs: &[FlowArc]) -> Option<usize>
-    ensures value { result ≡ first_unordered arcs.now }
+fn first_unordered(arcs: &[FlowArc]) -> Option<usize>
+    ensures value { result ≡ spec.first_unordered arcs.now }
     ensures bound { IfSome result (λ i. i < length arcs.now) }
 {
     let (first, rest) = arcs.split_first()?;
     let mut before = *first;
     for (i, arc) in rest.iter().enumerate() {
-        if !above(arc, &before) {
+        if !is_above(arc, &before) {
             return Some(i + 1);
         }
         before = *arc;
@@ -104,14 +89,14 @@ fn first_out_of_order(arcs: &[FlowArc]) -> Option<usize>
     None
 }
 
-fn above(arc: &FlowArc, before: &FlowArc) -> bool
-    ensures { result ≡ is_above arc.now before.now }
+fn is_above(arc: &FlowArc, before: &FlowArc) -> bool
+    ensures { result ≡ spec.is_above arc.now before.now }
 {
     before.from < arc.from || (before.from == arc.from && before.to < arc.to)
 }
 
-fn entry_fault(arcs: &[FlowArc]) -> Option<usize>
-    ensures value { result ≡ first_wrong_entry arcs.now }
+fn first_wrong_entry(arcs: &[FlowArc]) -> Option<usize>
+    ensures value { result ≡ spec.first_wrong_entry arcs.now }
     ensures bound { IfSome result (λ i. i ≤ length arcs.now) }
 {
     if has_entry(arcs) {
@@ -122,26 +107,26 @@ fn entry_fault(arcs: &[FlowArc]) -> Option<usize>
 }
 
 fn first_wrong_end(arcs: &[FlowArc]) -> Option<usize>
-    ensures value { result ≡ position is_wrong_entry arcs.now }
+    ensures value { result ≡ position spec.is_wrong_entry arcs.now }
     ensures bound { IfSome result (λ i. i < length arcs.now) }
 {
-    arcs.iter().position(|arc| wrong_entry(arc))
+    arcs.iter().position(|arc| is_wrong_entry(arc))
 }
 
 fn has_entry(arcs: &[FlowArc]) -> bool
-    ensures { result ≡ has_arc arcs.now 0 2 }
+    ensures { result ≡ spec.has_arc arcs.now 0 2 }
 {
     arcs.iter().any(|arc| enters(arc))
 }
 
 fn enters(arc: &FlowArc) -> bool
-    ensures { result ≡ joins 0 2 arc.now }
+    ensures { result ≡ spec.joins 0 2 arc.now }
 {
     arc.from == 0 && arc.to == 2
 }
 
-fn wrong_entry(arc: &FlowArc) -> bool
-    ensures { result ≡ is_wrong_entry arc.now }
+fn is_wrong_entry(arc: &FlowArc) -> bool
+    ensures { result ≡ spec.is_wrong_entry arc.now }
 {
     if arc.from == 0 {
         arc.to != 2
@@ -151,14 +136,14 @@ fn wrong_entry(arc: &FlowArc) -> bool
 }
 
 fn first_misplaced(arcs: &[FlowArc]) -> Option<usize>
-    ensures value { result ≡ position is_misplaced arcs.now }
+    ensures value { result ≡ position spec.is_misplaced arcs.now }
     ensures bound { IfSome result (λ i. i < length arcs.now) }
 {
-    arcs.iter().position(|arc| misplaced(arc))
+    arcs.iter().position(|arc| is_misplaced(arc))
 }
 
-fn misplaced(arc: &FlowArc) -> bool
-    ensures { result ≡ is_misplaced arc.now }
+fn is_misplaced(arc: &FlowArc) -> bool
+    ensures { result ≡ spec.is_misplaced arc.now }
 {
     match arc.kind {
         ArcKind::Real => false,
@@ -166,15 +151,15 @@ fn misplaced(arc: &FlowArc) -> bool
     }
 }
 
-fn first_unsuited(blocks: u32, lines: &[Vec<u32>]) -> Option<usize>
-    ensures value { result ≡ first_wrong_list 0 blocks (map (λ v. v.items) lines.now) }
+fn first_wrong_list(blocks: u32, lines: &[Vec<u32>]) -> Option<usize>
+    ensures value { result ≡ spec.first_wrong_list 0 blocks (map (λ v. v.items) lines.now) }
     ensures bound { IfSome result (λ b. b ≤ length lines.now) }
 {
     for (block, list) in lines.iter().enumerate() {
         if block >= blocks as usize {
             return Some(block);
         }
-        if !suited(block, list) {
+        if !suits(block, list) {
             return Some(block);
         }
     }
@@ -185,18 +170,18 @@ fn first_unsuited(blocks: u32, lines: &[Vec<u32>]) -> Option<usize>
     }
 }
 
-fn suited(block: usize, lines: &[u32]) -> bool
-    ensures { result ≡ suits block lines.now }
+fn suits(block: usize, lines: &[u32]) -> bool
+    ensures { result ≡ spec.suits block lines.now }
 {
     if block < 2 {
         lines.is_empty()
     } else {
-        ascending(lines)
+        ascends(lines)
     }
 }
 
-fn ascending(lines: &[u32]) -> bool
-    ensures { result ≡ ascends 0 lines.now }
+fn ascends(lines: &[u32]) -> bool
+    ensures { result ≡ spec.ascends 0 lines.now }
 {
     let mut before = 0;
     for line in lines {

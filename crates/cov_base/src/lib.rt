@@ -3,11 +3,15 @@
 #![tactic(auto)]
 
 mod faults;
+mod limits;
 pub mod net;
 pub mod no_memory;
 mod reach;
 pub mod refusal;
 
+pub use limits::{
+    ARC_LIMIT, BLOCK_LIMIT, DEFAULT_TURNS, FILE_LIMIT, LEVEL_LIMIT, OUTPUT_LIMIT, SOURCE_LIMIT,
+};
 pub use net::{ArcKind, FlowArc, Net, NetFault, falls};
 pub use no_memory::NoMemory;
 pub use refusal::Refusal;

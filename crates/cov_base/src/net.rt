@@ -1,7 +1,7 @@
 //! Flow nets: the blocks of a function, the arcs between them, and the source lines of each block.
 
 ghost use Rattle.std.specs.Prelude.{◌≡◌, ◌^◌, ◌<◌, length, map, slice_index_or, []};
-ghost use Rattle.cov_base.specs.Falls.{falls_of};
+ghost use Rattle.cov_base.specs.Falls as spec;
 ghost use Rattle.cov_base.specs.Net.{Makes, IsNet};
 
 use crate::faults::first_fault;
@@ -68,10 +68,17 @@ impl Model for Net {
     ghost Value = { NetValue };
 
     ghost view = { λ n.
-        record { blocks = n.blocks; arcs = n.arcs.items; lines = map (λ v. v.items) n.lines.items } };
+        record {
+          blocks = n.blocks;
+          arcs = n.arcs.items;
+          lines = map (λ v. v.items) n.lines.items;
+        } };
 
-    ghost invariant = { λ n. IsNet
-        (record { blocks = n.blocks; arcs = n.arcs.items; lines = map (λ v. v.items) n.lines.items }) };
+    ghost invariant = { λ n. IsNet (record {
+      blocks = n.blocks;
+      arcs = n.arcs.items;
+      lines = map (λ v. v.items) n.lines.items;
+    }) };
 }
 
 impl Net {
@@ -127,7 +134,7 @@ impl Net {
 
 /// Whether control falls through along the arc: it is real, and leaves the entry or enters the next block.
 pub fn falls(arc: &FlowArc) -> bool
-    ensures { result ≡ falls_of arc.now }
+    ensures { result ≡ spec.falls arc.now }
 {
     match arc.kind {
         ArcKind::Real => arc.from == 0 || (arc.to != 0 && arc.to - 1 == arc.from),

@@ -2,9 +2,9 @@
 use Rattle.std.specs.Prelude.{ℕ, ℤ, Bool, List}
 use Rattle.stack_ops.specs.declared.operation.Op.{Op}
 
--- How a block ends: it goes to a block; goes back to one, which takes a turn; takes a number and goes to the first where it isn't 0, and
--- else to the second; takes a number and goes where a case has it, and else to the default; calls a function, whose name stands on this
--- line, and goes to the block; returns; ends the run.
+-- How a block ends: it goes to a block; goes back to one, which takes a turn; takes a number and goes to the first
+-- where it isn't 0, and else to the second; takes a number and goes where a case has it, and else to the default; calls
+-- a function, whose name stands on this line, and goes to the block; returns; ends the run.
 pub data Ending : Type 0 where
   Jump : ℕ → Ending
   Back : ℕ → Ending

@@ -1,8 +1,6 @@
+pub mod Ascending
 pub mod Graph
 pub mod GraphView
-pub mod Items
-pub mod Lowered
-pub mod Meaning
+pub mod Laws
 pub mod Nets
-pub mod Operands
 pub mod WalkRun

@@ -1,6 +1,33 @@
 -- How a unit of graphs runs on an input: its output, its ending, and the walk of each call. It knows no trees.
-use Rattle.std.specs.Prelude.{ℕ, zero, suc, ◌-◌, nat_lt, Bool, true, false, cond, ℤ, pos, List, [], ◌∷◌, ◌++◌, length, reverse, take, drop, replicate, Option, Some, None, slice_get, ◌≡◌}
+use Rattle.std.specs.Prelude.{
+  ℕ,
+  zero,
+  suc,
+  ◌-◌,
+  nat_lt,
+  Bool,
+  true,
+  false,
+  cond,
+  ℤ,
+  pos,
+  List,
+  [],
+  ◌∷◌,
+  ◌++◌,
+  length,
+  reverse,
+  take,
+  drop,
+  replicate,
+  Option,
+  Some,
+  None,
+  slice_get,
+  ◌≡◌,
+}
 use Rattle.std.specs.Ordering.{int_eq}
+use Rattle.cov_base.specs.Limits.{frame_limit, output_limit}
 use Rattle.cov_base.specs.Walks.{Walk}
 use Rattle.stack_ops.specs.declared.operation.Op.{Op}
 use Rattle.stack_ops.specs.declared.endings.Outcome.{Outcome}
@@ -9,7 +36,8 @@ use Rattle.stack_ops.specs.declared.endings.Trap.TheVariants as trap
 use Rattle.stack_ops.specs.Effect.{State, Step, effect, byte_of}
 use Rattle.flow_graph.specs.Graph.{Ending, Block, Graph, GraphUnit}
 
--- a call that waits for another: its function, operands and cells, the number of its walk, and the block in which it goes on
+-- a call that waits for another: its function, operands and cells, the number of its walk, and the block in which it
+-- goes on
 pub record Caller : Type 0 where
   pub function : ℕ
   pub operands : List ℤ
@@ -17,8 +45,9 @@ pub record Caller : Type 0 where
   pub walk : ℕ
   pub next : ℕ
 
--- Where a run is: the block of the innermost call, its function, operands and cells and the number of its walk; the calls that wait, the
--- innermost first; globals, input left and output; the turns left; and the walks so far, one for each call in order of calls.
+-- Where a run is: the block of the innermost call, its function, operands and cells and the number of its walk; the
+-- calls that wait, the innermost first; globals, input left and output; the turns left; and the walks so far, one for
+-- each call in order of calls.
 pub record Point : Type 0 where
   pub function : ℕ
   pub block : ℕ
@@ -44,6 +73,7 @@ pub data Move : Type 0 where
   Over : Walked → Move
   Broken : Move
 
+-- the run is over, with this ending
 abbrev pub over : Outcome → Point → Move
 over ending p = Over (record { output = p.output; ending = ending; walks = p.walks })
 
@@ -81,7 +111,8 @@ abbrev pub chosen : ℤ → List (ℤ × ℕ) → ℕ → ℕ
 chosen v [] default = default
 chosen v (c ∷ cases) default = cond (int_eq c.0 v) c.1 (chosen v cases default)
 
--- A call begins in block 2 of its function, with its arguments in the first cells and 0 in the others; the caller waits.
+-- A call begins in block 2 of its function, with its arguments in the first cells and 0 in the others; the caller
+-- waits.
 abbrev pub begins : Graph → ℕ → ℕ → Point → Move
 begins g f next p = Goes_on (record p {
   function = f;
@@ -89,7 +120,13 @@ begins g f next p = Goes_on (record p {
   operands = [];
   cells = reverse (take g.params p.operands) ++ replicate (g.cells - g.params) (pos 0);
   walk = length p.walks;
-  callers = record { function = p.function; operands = drop g.params p.operands; cells = p.cells; walk = p.walk; next = next } ∷ p.callers;
+  callers = record {
+    function = p.function;
+    operands = drop g.params p.operands;
+    cells = p.cells;
+    walk = p.walk;
+    next = next;
+  } ∷ p.callers;
   walks = p.walks ++ record { function = f; blocks = 0 ∷ 2 ∷ [] } ∷ [];
 })
 
@@ -97,14 +134,22 @@ begins g f next p = Goes_on (record p {
 abbrev pub calls : Option Graph → ℕ → ℕ → ℕ → Point → Move
 calls None f line next p = Broken
 calls (Some g) f line next p =
-    with_turn p.turns p (λ p. cond (nat_lt (suc (length p.callers)) 2000) (begins g f next p) (over (outcome.Trapped trap.CallDepth line) p))
+    with_turn p.turns p (λ p. cond (nat_lt (suc (length p.callers)) frame_limit) (begins g f next p)
+    (over (outcome.Trapped trap.CallDepth line) p))
 
 -- the call ends, and its caller goes on with these numbers in front of its operands
 abbrev pub goes_back : List Caller → List ℤ → ℤ → Point → Move
 goes_back [] given status p = over (outcome.Returned (byte_of status)) p
 goes_back (c ∷ cs) given status p =
-    Goes_on (enters c.next (record p { function = c.function; operands = given ++ c.operands; cells = c.cells; walk = c.walk; callers = cs }))
+    Goes_on (enters c.next (record p {
+      function = c.function;
+      operands = given ++ c.operands;
+      cells = c.cells;
+      walk = c.walk;
+      callers = cs;
+    }))
 
+-- the innermost call returns: where its function gives a number, with the number at the top of its operands
 abbrev pub leaves : Bool → Point → Move
 leaves true p = with_top p.operands p (λ v p. goes_back p.callers (v ∷ []) v (enters 1 p))
 leaves false p = goes_back p.callers [] (pos 0) (enters 1 p)
@@ -114,19 +159,32 @@ abbrev pub ends_so : GraphUnit → Bool → Ending → Point → Move
 ends_so u gives (Ending.Jump t) p = Goes_on (enters t p)
 ends_so u gives (Ending.Back t) p = with_turn p.turns p (λ p. Goes_on (enters t p))
 ends_so u gives (Ending.Branch t f) p = with_top p.operands p (λ v p. Goes_on (enters (cond (int_eq v (pos 0)) f t) p))
-ends_so u gives (Ending.Switch cases default) p = with_top p.operands p (λ v p. Goes_on (enters (chosen v cases default) p))
+ends_so u gives (Ending.Switch cases default) p =
+    with_top p.operands p (λ v p. Goes_on (enters (chosen v cases default) p))
 ends_so u gives (Ending.Call f line next) p = calls (slice_get u.graphs f) f line next p
 ends_so u gives Ending.Return p = leaves gives p
 ends_so u gives Ending.Exit p =
-    with_top p.operands p (λ v p. over (outcome.Exited (byte_of v)) (record p { walks = all_left p.callers (walk_on p.walk 1 p.walks) }))
+    with_top p.operands p (λ v p. over (outcome.Exited (byte_of v)) (record p {
+      walks = all_left p.callers (walk_on p.walk 1 p.walks);
+    }))
 
 -- ---- blocks
 
+-- what an operation sees of where a run is
 abbrev pub state_of : Point → State
-state_of p = record { operands = p.operands; cells = p.cells; globals = p.globals; input = p.input; output = p.output; limit = 16777216 }
+state_of p = record {
+  operands = p.operands;
+  cells = p.cells;
+  globals = p.globals;
+  input = p.input;
+  output = p.output;
+  limit = output_limit;
+}
 
+-- where a run is once an operation was done
 abbrev pub with_state : State → Point → Point
-with_state s p = record p { operands = s.operands; cells = s.cells; globals = s.globals; input = s.input; output = s.output }
+with_state s p =
+    record p { operands = s.operands; cells = s.cells; globals = s.globals; input = s.input; output = s.output }
 
 -- what comes behind an operation
 abbrev pub stepped : Step → Point → (Point → Move) → Move
@@ -139,14 +197,17 @@ abbrev pub does : List Op → Point → (Point → Move) → Move
 does [] p then = then p
 does (o ∷ os) p then = stepped (effect o (state_of p)) p (λ p. does os p then)
 
+-- the block of this number in a function
 abbrev pub block_at : Option Graph → ℕ → Option Block
 block_at None b = None
 block_at (Some g) b = slice_get g.blocks (b - 2)
 
+-- the function gives a number
 abbrev pub gives_at : Option Graph → Bool
 gives_at None = false
 gives_at (Some g) = g.gives
 
+-- what comes of a block, where it is there
 abbrev pub in_block : GraphUnit → Bool → Option Block → Point → Move
 in_block u gives None p = Broken
 in_block u gives (Some b) p = does b.ops p (λ p. ends_so u gives b.end p)
@@ -155,6 +216,7 @@ in_block u gives (Some b) p = does b.ops p (λ p. ends_so u gives b.end p)
 abbrev pub move : GraphUnit → Point → Move
 move u p = in_block u (gives_at (slice_get u.graphs p.function)) (block_at (slice_get u.graphs p.function) p.block) p
 
+-- how many cells a function has
 abbrev pub cells_of : Option Graph → ℕ
 cells_of None = 0
 cells_of (Some g) = g.cells
@@ -175,6 +237,7 @@ first u input n = record {
   walks = record { function = u.main; blocks = 0 ∷ 2 ∷ [] } ∷ [];
 }
 
+-- a run goes on from where it is, or is over
 abbrev pub then_goes : Move → (Point → Option Walked) → Option Walked
 then_goes (Move.Goes_on p) then = then p
 then_goes (Move.Over walked) then = Some walked

@@ -59,7 +59,11 @@ impl Model for Block {
 
     ghost Value = { BlockSeen };
 
-    ghost view = { λ b. record { ops = b.ops.items; end = ending_view b.end; lines = b.lines.items } };
+    ghost view = { λ b. record {
+      ops = b.ops.items;
+      end = ending_view b.end;
+      lines = b.lines.items;
+    } };
 }
 
 impl Model for Graph {
@@ -82,5 +86,9 @@ impl Model for GraphUnit {
 
     ghost Value = { UnitSeen };
 
-    ghost view = { λ u. record { globals = u.globals.items; main = u.main; graphs = u.graphs.items } };
+    ghost view = { λ u. record {
+      globals = u.globals.items;
+      main = u.main;
+      graphs = u.graphs.items;
+    } };
 }

@@ -1,7 +1,9 @@
-//! Graphs of blocks, and what sources and graphs mean.
+//! Graphs of blocks, their nets and their runs.
 
 #![tactic(auto)]
 
 pub mod graph;
+mod laws;
 
 pub use graph::{Block, Ending, Graph, GraphUnit};
+pub use laws::closed_walks;

@@ -1,5 +1,32 @@
 -- What an operator gives, on whole numbers without width: a number or a trap.
-use Rattle.std.specs.Prelude.{ℕ, ◌-◌, ◌^◌, Bool, true, false, not, cond, ◌||◌, ℤ, pos, negsuc, neg_ℤ, ◌+ℤ◌, ◌-ℤ◌, ◌*ℤ◌, int_le, int_lt, int_div, int_rem, bit_and, bit_or, bit_xor, Result, Ok, Err}
+use Rattle.std.specs.Prelude.{
+  ℕ,
+  ◌-◌,
+  ◌^◌,
+  Bool,
+  true,
+  false,
+  not,
+  cond,
+  ◌||◌,
+  ℤ,
+  pos,
+  negsuc,
+  neg_ℤ,
+  ◌+ℤ◌,
+  ◌-ℤ◌,
+  ◌*ℤ◌,
+  int_le,
+  int_lt,
+  int_div,
+  int_rem,
+  bit_and,
+  bit_or,
+  bit_xor,
+  Result,
+  Ok,
+  Err,
+}
 use Rattle.std.specs.Int.{int_div_euclid}
 use Rattle.std.specs.Ordering.{int_eq}
 use Rattle.int_ops.specs.declared.types.IntType.{IntType}
@@ -10,7 +37,7 @@ use Rattle.int_ops.specs.declared.operators.UnOp.TheVariants as sign
 use Rattle.int_ops.specs.declared.operators.ArithTrap.{ArithTrap}
 use Rattle.int_ops.specs.declared.operators.ArithTrap.TheVariants as trap
 use Rattle.int_ops.specs.Ranges.{width, is_signed, is_in_range}
-use Rattle.int_ops.specs.Conversion.{conv}
+use Rattle.int_ops.specs.Conversion.{convert}
 
 -- a number or a trap
 abbrev pub Answer : Type 0
@@ -21,10 +48,10 @@ abbrev pub truth : Bool → ℤ
 truth true = pos 1
 truth false = pos 0
 
--- An exact result: one of a signed type that is outside its range is Overflow (C17 6.5 paragraph 5); one of an unsigned type or of
--- _Bool is converted (C17 6.2.5 paragraph 9).
+-- An exact result: one of a signed type that is outside its range is Overflow (C17 6.5 paragraph 5); one of an unsigned
+-- type or of _Bool is converted (C17 6.2.5 paragraph 9).
 abbrev pub settled : IntType → ℤ → Answer
-settled t n = cond (is_signed t) (cond (is_in_range t n) (Ok n) (Err trap.Overflow)) (Ok (conv t n))
+settled t n = cond (is_signed t) (cond (is_in_range t n) (Ok n) (Err trap.Overflow)) (Ok (convert t n))
 
 -- the quotient toward zero (C17 6.5.5 paragraphs 5 and 6)
 abbrev pub quotient : IntType → ℤ → ℤ → Answer
@@ -55,24 +82,26 @@ shifted_left t a b =
 abbrev pub shifted_right : IntType → ℤ → ℤ → Answer
 shifted_right t a b = cond (is_past t b) (Err trap.ShiftRange) (settled t (int_div_euclid a (power b)))
 
--- The bits of a number below 0 are those of -n - 1 turned over (C17 6.2.6.2 paragraph 2, two's complement). So n and not m has the
--- bits of n that m lacks.
+-- The bits of a number below 0 are those of -n - 1 turned over (C17 6.2.6.2 paragraph 2, two's complement). So n and
+-- not m has the bits of n that m lacks.
 abbrev pub and_not : ℕ → ℕ → ℕ
 and_not n m = n - bit_and n m
 
--- bit by bit: both, one and not the other, at least one (C17 6.5.10 to 6.5.12)
+-- the bits that both numbers have (C17 6.5.10)
 abbrev pub both : ℤ → ℤ → ℤ
 both (pos a) (pos b) = pos (bit_and a b)
 both (pos a) (negsuc b) = pos (and_not a b)
 both (negsuc a) (pos b) = pos (and_not b a)
 both (negsuc a) (negsuc b) = negsuc (bit_or a b)
 
+-- the bits of one number and not of the other (C17 6.5.11)
 abbrev pub one_alone : ℤ → ℤ → ℤ
 one_alone (pos a) (pos b) = pos (bit_xor a b)
 one_alone (pos a) (negsuc b) = negsuc (bit_xor a b)
 one_alone (negsuc a) (pos b) = negsuc (bit_xor a b)
 one_alone (negsuc a) (negsuc b) = pos (bit_xor a b)
 
+-- the bits of at least one number (C17 6.5.12)
 abbrev pub any : ℤ → ℤ → ℤ
 any (pos a) (pos b) = pos (bit_or a b)
 any (pos a) (negsuc b) = negsuc (and_not b a)
@@ -104,10 +133,10 @@ applied op.Xor t a b count = settled t (one_alone a b)
 applied op.Or t a b count = settled t (any a b)
 
 -- What an operator gives at a type: the operands are converted to the type first, but for a shift's count.
-abbrev pub apply : BinOp → IntType → ℤ → ℤ → Answer
-apply o t a b = applied o t (conv t a) (conv t b) b
+abbrev pub binary : BinOp → IntType → ℤ → ℤ → Answer
+binary o t a b = applied o t (convert t a) (convert t b) b
 
 -- the same of an operator with one operand (C17 6.5.3.3 paragraphs 3 and 4)
-abbrev pub apply_one : UnOp → IntType → ℤ → Answer
-apply_one sign.Minus t a = settled t (neg_ℤ (conv t a))
-apply_one sign.Complement t a = settled t (turned (conv t a))
+abbrev pub unary : UnOp → IntType → ℤ → Answer
+unary sign.Minus t a = settled t (neg_ℤ (convert t a))
+unary sign.Complement t a = settled t (turned (convert t a))

@@ -25,10 +25,12 @@ Conv t n r = ConvAt (width t) (is_signed t) n r
 abbrev pub conv_at : ℕ → Bool → ℤ → ℤ
 conv_at bits signed n = least_at bits signed +ℤ int_rem_euclid (n -ℤ least_at bits signed) (pos (2 ^ bits))
 
+-- what a number becomes in `_Bool`: 0 for 0, and otherwise 1 (C17 6.3.1.2)
 abbrev pub conv_bool : ℤ → ℤ
 conv_bool (pos n) = pos (min n 1)
 conv_bool (negsuc n) = pos 1
 
-abbrev pub conv : IntType → ℤ → ℤ
-conv type.Bool n = conv_bool n
-conv t n = conv_at (width t) (is_signed t) n
+-- what a number becomes in a type (C17 6.3.1.2, 6.3.1.3)
+abbrev pub convert : IntType → ℤ → ℤ
+convert type.Bool n = conv_bool n
+convert t n = conv_at (width t) (is_signed t) n

@@ -29,7 +29,8 @@ is_signed type.UnsignedInt = false
 is_signed type.Long = true
 is_signed type.UnsignedLong = false
 
--- the conversion rank: more bits rank higher, and a type ranks as its signed or unsigned counterpart (C17 6.3.1.1 paragraph 1)
+-- the conversion rank: more bits rank higher, and a type ranks as its signed or unsigned counterpart (C17 6.3.1.1
+-- paragraph 1)
 abbrev pub rank : IntType → ℕ
 rank type.Bool = 0
 rank type.Char = 1
@@ -42,19 +43,21 @@ rank type.UnsignedInt = 3
 rank type.Long = 4
 rank type.UnsignedLong = 4
 
--- the least and the greatest number of so many bits, in two's complement where there is a sign (C17 6.2.6.2 paragraphs 1 and 2)
+-- the least number of so many bits, in two's complement where there is a sign (C17 6.2.6.2 paragraphs 1 and 2)
 abbrev pub least_at : ℕ → Bool → ℤ
 least_at bits signed = cond signed (neg_ℤ (pos (2 ^ (bits - 1)))) (pos 0)
 
+-- the greatest number of so many bits
 abbrev pub greatest_at : ℕ → Bool → ℤ
 greatest_at bits signed = cond signed (pos (2 ^ (bits - 1) - 1)) (pos (2 ^ bits - 1))
 
--- the least and the greatest number of a type
-abbrev pub least_of : IntType → ℤ
-least_of t = least_at (width t) (is_signed t)
+-- the least number of a type
+abbrev pub least : IntType → ℤ
+least t = least_at (width t) (is_signed t)
 
-abbrev pub greatest_of : IntType → ℤ
-greatest_of t = greatest_at (width t) (is_signed t)
+-- the greatest number of a type
+abbrev pub greatest : IntType → ℤ
+greatest t = greatest_at (width t) (is_signed t)
 
 -- the number is one of so many bits
 abbrev pub RangeAt : ℕ → Bool → ℤ → Type 0
@@ -66,8 +69,8 @@ Range t n = RangeAt (width t) (is_signed t) n
 
 -- the test of it
 abbrev pub is_in_range : IntType → ℤ → Bool
-is_in_range t n = int_le (least_of t) n && int_le n (greatest_of t)
+is_in_range t n = int_le (least t) n && int_le n (greatest t)
 
 -- the number lies from -2^63 to 2^64 - 1, so some type has it
 abbrev pub IsNumber : ℤ → Type 0
-IsNumber n = (least_of type.Long ≤ℤ n) × (n ≤ℤ greatest_of type.UnsignedLong)
+IsNumber n = (least type.Long ≤ℤ n) × (n ≤ℤ greatest type.UnsignedLong)

@@ -2,9 +2,8 @@
 
 ghost use Rattle.std.specs.Prelude.{◌≡◌, ℤ, ◌+ℤ◌, ◌-ℤ◌, ◌*ℤ◌, IfOk};
 ghost use Rattle.int_ops.specs.Ranges.{Range, IsNumber};
+ghost use Rattle.int_ops.specs.Apply as spec;
 ghost use Rattle.int_ops.specs.Apply.{
-  apply,
-  apply_one,
   is_past,
   quotient,
   remainder,
@@ -15,7 +14,7 @@ ghost use Rattle.int_ops.specs.Apply.{
 
 use crate::exact;
 use crate::operators::{ArithTrap, BinOp, UnOp};
-use crate::ranges::{convert, has_sign, is_of, width_of};
+use crate::ranges::{convert, is_in_range, is_signed, width};
 use crate::types::IntType;
 
 /// What an operator gives at a type. Both operands are from -2^63 to 2^64 - 1 and are converted to the type first,
@@ -24,7 +23,7 @@ use crate::types::IntType;
 pub fn binary(op: BinOp, t: IntType, a: i128, b: i128) -> Result<i128, ArithTrap>
     requires left { IsNumber a }
     requires right { IsNumber b }
-    ensures value { result ≡ apply op t a b }
+    ensures value { result ≡ spec.binary op t a b }
     ensures number { IfOk result IsNumber }
 {
     let left = convert(t, a);
@@ -55,7 +54,7 @@ pub fn binary(op: BinOp, t: IntType, a: i128, b: i128) -> Result<i128, ArithTrap
 /// What an operator with one operand gives at a type, to which the operand, from -2^63 to 2^64 - 1, is converted first.
 pub fn unary(op: UnOp, t: IntType, a: i128) -> Result<i128, ArithTrap>
     requires { IsNumber a }
-    ensures value { result ≡ apply_one op t a }
+    ensures value { result ≡ spec.unary op t a }
     ensures number { IfOk result IsNumber }
 {
     let operand = convert(t, a);
@@ -70,10 +69,10 @@ fn settle(t: IntType, n: i128) -> Result<i128, ArithTrap>
     ensures value { result ≡ settled t n }
     ensures number { IfOk result IsNumber }
 {
-    if !has_sign(t) {
+    if !is_signed(t) {
         return Ok(convert(t, n));
     }
-    if is_of(t, n) {
+    if is_in_range(t, n) {
         return Ok(n);
     }
     Err(ArithTrap::Overflow)
@@ -85,7 +84,7 @@ fn multiply(t: IntType, a: i128, b: i128) -> Result<i128, ArithTrap>
     ensures value { result ≡ settled t (a *ℤ b) }
     ensures number { IfOk result IsNumber }
 {
-    if has_sign(t) {
+    if is_signed(t) {
         return settle(t, exact::product(a, b));
     }
     Ok(convert(t, exact::low_product(a, b)))
@@ -112,7 +111,7 @@ fn take_rest(t: IntType, a: i128, b: i128) -> Result<i128, ArithTrap>
     if b == 0 {
         return Err(ArithTrap::DivideByZero);
     }
-    if is_of(t, exact::quotient(a, b)) {
+    if is_in_range(t, exact::quotient(a, b)) {
         return settle(t, exact::remainder(a, b));
     }
     Err(ArithTrap::Overflow)
@@ -129,7 +128,7 @@ fn shift_left(t: IntType, a: i128, count: i128) -> Result<i128, ArithTrap>
     if a < 0 {
         return Err(ArithTrap::Overflow);
     }
-    if has_sign(t) {
+    if is_signed(t) {
         return settle(t, exact::shifted_left(a, count as u32));
     }
     Ok(convert(t, exact::low_shifted_left(a, count as u32)))
@@ -150,5 +149,5 @@ fn shift_right(t: IntType, a: i128, by: i128) -> Result<i128, ArithTrap>
 fn passes_width(t: IntType, count: i128) -> bool
     ensures { result ≡ is_past t count }
 {
-    count < 0 || i128::from(width_of(t)) <= count
+    count < 0 || i128::from(width(t)) <= count
 }

@@ -14,5 +14,5 @@ pub use apply::{binary, unary};
 pub use common::{common_type, promoted};
 pub use num::Num;
 pub use operators::{ArithTrap, BinOp, UnOp};
-pub use ranges::{convert, greatest, has_sign, is_of, least, width_of};
+pub use ranges::{convert, greatest, is_in_range, is_signed, least, width};
 pub use types::IntType;

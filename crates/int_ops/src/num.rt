@@ -6,7 +6,7 @@ ghost use Rattle.int_ops.specs.Conversion.{ConvAt, conv_at};
 ghost use Rattle.int_ops.specs.Widths.{IsWidth};
 
 /// A number of BITS bits, signed where SIGNED is 1 and unsigned where it is 0. BITS is 8, 16, 32 or 64.
-#[derive(Clone, Copy, Debug, PartialEq, Eq)]
+#[derive(Clone, Copy)]
 pub struct Num<const BITS: u32, const SIGNED: u32> {
     number: i128,
     ghost in_range: { RangeAt BITS (SIGNED == 1) number },

@@ -1,8 +1,10 @@
 //! The numbers of each type, and the conversion of a number to a type.
 
 ghost use Rattle.std.specs.Prelude.{◌≡◌, ℤ};
-ghost use Rattle.int_ops.specs.Ranges.{least_of, greatest_of, is_signed, is_in_range, width, Range, IsNumber};
-ghost use Rattle.int_ops.specs.Conversion.{conv, Conv};
+ghost use Rattle.int_ops.specs.Ranges as spec;
+ghost use Rattle.int_ops.specs.Ranges.{Range, IsNumber};
+ghost use Rattle.int_ops.specs.Conversion as conversion;
+ghost use Rattle.int_ops.specs.Conversion.{Conv};
 
 use crate::num::Num;
 use crate::types::IntType;
@@ -27,7 +29,7 @@ macro_rules! by_type {
 
 /// The least number of a type.
 pub fn least(t: IntType) -> i128
-    ensures { result ≡ least_of t }
+    ensures { result ≡ spec.least t }
 {
     macro_rules! least_arm {
         ($bits:literal, $signed:literal) => {
@@ -39,7 +41,7 @@ pub fn least(t: IntType) -> i128
 
 /// The greatest number of a type.
 pub fn greatest(t: IntType) -> i128
-    ensures { result ≡ greatest_of t }
+    ensures { result ≡ spec.greatest t }
 {
     macro_rules! greatest_arm {
         ($bits:literal, $signed:literal) => {
@@ -50,15 +52,15 @@ pub fn greatest(t: IntType) -> i128
 }
 
 /// Whether the number is one of the type.
-pub fn is_of(t: IntType, n: i128) -> bool
-    ensures { result ≡ is_in_range t n }
+pub fn is_in_range(t: IntType, n: i128) -> bool
+    ensures { result ≡ spec.is_in_range t n }
 {
     least(t) <= n && n <= greatest(t)
 }
 
 /// How many bits a number of the type takes.
-pub fn width_of(t: IntType) -> u32
-    ensures { result ≡ width t }
+pub fn width(t: IntType) -> u32
+    ensures { result ≡ spec.width t }
 {
     macro_rules! width_arm {
         ($bits:literal, $signed:literal) => {
@@ -69,8 +71,8 @@ pub fn width_of(t: IntType) -> u32
 }
 
 /// Whether the type is one of the signed ones.
-pub fn has_sign(t: IntType) -> bool
-    ensures { result ≡ is_signed t }
+pub fn is_signed(t: IntType) -> bool
+    ensures { result ≡ spec.is_signed t }
 {
     macro_rules! sign_arm {
         ($bits:literal, $signed:literal) => {
@@ -82,7 +84,7 @@ pub fn has_sign(t: IntType) -> bool
 
 /// The number that n becomes in the type.
 pub fn convert(t: IntType, n: i128) -> i128
-    ensures value { result ≡ conv t n }
+    ensures value { result ≡ conversion.convert t n }
     ensures is { Conv t n result }
     ensures only { (r : ℤ) → Conv t n r → r ≡ result }
     ensures range { Range t result }

@@ -2,7 +2,7 @@
 use Rattle.std.specs.Prelude.{ℤ, Result, Ok, Err}
 use Rattle.int_ops.specs.declared.types.IntType.{IntType}
 use Rattle.int_ops.specs.declared.operators.BinOp.{BinOp}
-use Rattle.int_ops.specs.declared.operators.BinOp.TheVariants as binary
+use Rattle.int_ops.specs.declared.operators.BinOp.TheVariants as bin_op
 use Rattle.int_ops.specs.Apply.{Answer}
 use Rattle.stack_ops.specs.declared.endings.Trap.{Trap}
 use Rattle.stack_ops.specs.declared.operation.Op.{Op}
@@ -11,22 +11,22 @@ use Rattle.stack_ops.specs.Effect.{trap_of}
 
 -- the operation of an operator at a type, whose trap has line 0
 abbrev pub operation : BinOp → IntType → Op
-operation binary.Mul t = op.Mul t 0
-operation binary.Div t = op.Div t 0
-operation binary.Rem t = op.Rem t 0
-operation binary.Add t = op.Add t 0
-operation binary.Sub t = op.Sub t 0
-operation binary.Shl t = op.Shl t 0
-operation binary.Shr t = op.Shr t 0
-operation binary.Less t = op.Less t 0
-operation binary.Greater t = op.Greater t 0
-operation binary.LessEqual t = op.LessEqual t 0
-operation binary.GreaterEqual t = op.GreaterEqual t 0
-operation binary.Equal t = op.Equal t 0
-operation binary.NotEqual t = op.NotEqual t 0
-operation binary.And t = op.And t 0
-operation binary.Xor t = op.Xor t 0
-operation binary.Or t = op.Or t 0
+operation bin_op.Mul t = op.Mul t 0
+operation bin_op.Div t = op.Div t 0
+operation bin_op.Rem t = op.Rem t 0
+operation bin_op.Add t = op.Add t 0
+operation bin_op.Sub t = op.Sub t 0
+operation bin_op.Shl t = op.Shl t 0
+operation bin_op.Shr t = op.Shr t 0
+operation bin_op.Less t = op.Less t 0
+operation bin_op.Greater t = op.Greater t 0
+operation bin_op.LessEqual t = op.LessEqual t 0
+operation bin_op.GreaterEqual t = op.GreaterEqual t 0
+operation bin_op.Equal t = op.Equal t 0
+operation bin_op.NotEqual t = op.NotEqual t 0
+operation bin_op.And t = op.And t 0
+operation bin_op.Xor t = op.Xor t 0
+operation bin_op.Or t = op.Or t 0
 
 -- the number of an operator, or the machine's trap of the same name
 abbrev pub with_its_trap : Answer → Result ℤ Trap

@@ -1,7 +1,7 @@
 //! Operators by way of the stack machine.
 
 ghost use Rattle.std.specs.Prelude.{◌≡◌, [], ◌∷◌, length, All, IfOk};
-ghost use Rattle.int_ops.specs.Apply.{apply};
+ghost use Rattle.int_ops.specs.Apply.{binary};
 ghost use Rattle.int_ops.specs.Ranges.{IsNumber};
 ghost use Rattle.stack_ops.specs.Stack.{operands};
 ghost use Rattle.middle_rows.specs.OperatorSteps as spec;
@@ -62,7 +62,7 @@ pub fn by_stack(
 ) -> Result<Result<i128, Trap>, NoMemory>
     requires left { IsNumber left }
     requires right { IsNumber right }
-    ensures { IfOk result (λ answer. answer ≡ with_its_trap (apply op t left right)) }
+    ensures { IfOk result (λ answer. answer ≡ with_its_trap (binary op t left right)) }
 {
     let mut stack = two_on_a_stack(alloc, left, right)?;
     let mut io = RunIo::new(alloc, 0)?;

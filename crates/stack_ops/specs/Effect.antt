@@ -1,10 +1,35 @@
 -- What each operation does to numbers and bytes.
-use Rattle.std.specs.Prelude.{ℕ, ◌+◌, ◌-◌, ◌%◌, Bool, true, false, cond, nat_lt, ℤ, pos, negsuc, List, [], ◌∷◌, ◌++◌, length, Option, Some, None, slice_get, slice_set, Ok, Err}
+use Rattle.std.specs.Prelude.{
+  ℕ,
+  ◌+◌,
+  ◌-◌,
+  ◌%◌,
+  Bool,
+  true,
+  false,
+  cond,
+  nat_lt,
+  ℤ,
+  pos,
+  negsuc,
+  List,
+  [],
+  ◌∷◌,
+  ◌++◌,
+  length,
+  Option,
+  Some,
+  None,
+  slice_get,
+  slice_set,
+  Ok,
+  Err,
+}
 use Rattle.std.specs.Ordering.{int_eq}
-use Rattle.int_ops.specs.Apply.{Answer, apply, apply_one, truth}
-use Rattle.int_ops.specs.Conversion.{conv}
-use Rattle.int_ops.specs.declared.operators.BinOp.TheVariants as binary
-use Rattle.int_ops.specs.declared.operators.UnOp.TheVariants as unary
+use Rattle.int_ops.specs.Apply.{Answer, binary, unary, truth}
+use Rattle.int_ops.specs.Conversion.{convert}
+use Rattle.int_ops.specs.declared.operators.BinOp.TheVariants as bin_op
+use Rattle.int_ops.specs.declared.operators.UnOp.TheVariants as un_op
 use Rattle.int_ops.specs.declared.operators.ArithTrap.{ArithTrap}
 use Rattle.int_ops.specs.declared.operators.ArithTrap.TheVariants as arithmetic
 use Rattle.stack_ops.specs.declared.endings.Trap.{Trap}
@@ -12,7 +37,8 @@ use Rattle.stack_ops.specs.declared.endings.Trap.TheVariants as trap
 use Rattle.stack_ops.specs.declared.operation.Op.{Op}
 use Rattle.stack_ops.specs.declared.operation.Op.TheVariants as op
 
--- what an operation acts on: the operands, the top first, the cells of the frame, the globals, the bytes of the input that are left, the
+-- what an operation acts on: the operands, the top first, the cells of the frame, the globals, the bytes of the input
+-- that are left, the
 -- bytes that were put, and how many may be
 pub record State : Type 0 where
   pub operands : List ℤ
@@ -22,7 +48,8 @@ pub record State : Type 0 where
   pub output : List ℕ
   pub limit : ℕ
 
--- what comes of an operation: the run goes on with a state, or traps at a line, or something that the operation needs isn't there
+-- what comes of an operation: the run goes on with a state, or traps at a line, or something that the operation needs
+-- isn't there
 pub data Step : Type 0 where
   Goes : State → Step
   Traps : Trap → ℕ → Step
@@ -51,7 +78,8 @@ abbrev pub sets_globals : Option (List ℤ) → List ℤ → State → Step
 sets_globals (Some globals) operands s = Goes (record s { operands = operands; globals = globals })
 sets_globals None operands s = Stuck
 
--- An array has a first cell and so many elements; its element at an index from 0 to below their number is in the cell that lies so far on.
+-- An array has a first cell and so many elements; its element at an index from 0 to below their number is in the cell
+-- that lies so far on.
 abbrev pub element : ℕ → ℕ → ℤ → Option ℕ
 element base size (pos i) = cond (nat_lt i size) (Some (base + i)) None
 element base size (negsuc i) = None
@@ -97,7 +125,8 @@ abbrev pub puts : Bool → ℕ → ℕ → List ℤ → State → Step
 puts true byte line rest s = Goes (record s { operands = pos byte ∷ rest; output = s.output ++ byte ∷ [] })
 puts false byte line rest s = Traps trap.OutputLimit line
 
--- The table of the operations, in the order of their codes: what each makes of the operands, the top first, and of the rest of a state.
+-- The table of the operations, in the order of their codes: what each makes of the operands, the top first, and of the
+-- rest of a state.
 -- An operator's left operand stands below its right one.
 abbrev pub row : Op → List ℤ → State → Step
 row (op.Push n) rest s = leaves (n ∷ rest) s
@@ -105,7 +134,7 @@ row op.Dup (a ∷ rest) s = leaves (a ∷ a ∷ rest) s
 row op.Drop (a ∷ rest) s = leaves rest s
 row op.Swap (b ∷ a ∷ rest) s = leaves (a ∷ b ∷ rest) s
 row op.Over (b ∷ a ∷ rest) s = leaves (a ∷ b ∷ a ∷ rest) s
-row (op.Convert t) (a ∷ rest) s = leaves (conv t a ∷ rest) s
+row (op.Convert t) (a ∷ rest) s = leaves (convert t a ∷ rest) s
 row op.Not (a ∷ rest) s = leaves (truth (int_eq a (pos 0)) ∷ rest) s
 row (op.LoadLocal w) rest s = loads (slice_get s.cells w) rest s
 row (op.StoreLocal w) (a ∷ rest) s = sets_cells (stored s.cells w a) (a ∷ rest) s
@@ -113,27 +142,30 @@ row (op.LoadGlobal w) rest s = loads (slice_get s.globals w) rest s
 row (op.StoreGlobal w) (a ∷ rest) s = sets_globals (stored s.globals w a) (a ∷ rest) s
 row (op.CheckIndex size line) (a ∷ rest) s = within (element 0 size a) line (λ w. leaves (a ∷ rest) s)
 row (op.LoadLocalAt base size) (i ∷ rest) s = within (element base size i) 0 (λ w. loads (slice_get s.cells w) rest s)
-row (op.StoreLocalAt base size) (a ∷ i ∷ rest) s = within (element base size i) 0 (λ w. sets_cells (stored s.cells w a) (a ∷ rest) s)
-row (op.LoadGlobalAt base size) (i ∷ rest) s = within (element base size i) 0 (λ w. loads (slice_get s.globals w) rest s)
-row (op.StoreGlobalAt base size) (a ∷ i ∷ rest) s = within (element base size i) 0 (λ w. sets_globals (stored s.globals w a) (a ∷ rest) s)
-row (op.Mul t line) operands s = on_two (apply binary.Mul t) line operands s
-row (op.Div t line) operands s = on_two (apply binary.Div t) line operands s
-row (op.Rem t line) operands s = on_two (apply binary.Rem t) line operands s
-row (op.Add t line) operands s = on_two (apply binary.Add t) line operands s
-row (op.Sub t line) operands s = on_two (apply binary.Sub t) line operands s
-row (op.Shl t line) operands s = on_two (apply binary.Shl t) line operands s
-row (op.Shr t line) operands s = on_two (apply binary.Shr t) line operands s
-row (op.Less t line) operands s = on_two (apply binary.Less t) line operands s
-row (op.Greater t line) operands s = on_two (apply binary.Greater t) line operands s
-row (op.LessEqual t line) operands s = on_two (apply binary.LessEqual t) line operands s
-row (op.GreaterEqual t line) operands s = on_two (apply binary.GreaterEqual t) line operands s
-row (op.Equal t line) operands s = on_two (apply binary.Equal t) line operands s
-row (op.NotEqual t line) operands s = on_two (apply binary.NotEqual t) line operands s
-row (op.And t line) operands s = on_two (apply binary.And t) line operands s
-row (op.Xor t line) operands s = on_two (apply binary.Xor t) line operands s
-row (op.Or t line) operands s = on_two (apply binary.Or t) line operands s
-row (op.Minus t line) operands s = on_one (apply_one unary.Minus t) line operands s
-row (op.Complement t line) operands s = on_one (apply_one unary.Complement t) line operands s
+row (op.StoreLocalAt base size) (a ∷ i ∷ rest) s =
+    within (element base size i) 0 (λ w. sets_cells (stored s.cells w a) (a ∷ rest) s)
+row (op.LoadGlobalAt base size) (i ∷ rest) s =
+    within (element base size i) 0 (λ w. loads (slice_get s.globals w) rest s)
+row (op.StoreGlobalAt base size) (a ∷ i ∷ rest) s =
+    within (element base size i) 0 (λ w. sets_globals (stored s.globals w a) (a ∷ rest) s)
+row (op.Mul t line) operands s = on_two (binary bin_op.Mul t) line operands s
+row (op.Div t line) operands s = on_two (binary bin_op.Div t) line operands s
+row (op.Rem t line) operands s = on_two (binary bin_op.Rem t) line operands s
+row (op.Add t line) operands s = on_two (binary bin_op.Add t) line operands s
+row (op.Sub t line) operands s = on_two (binary bin_op.Sub t) line operands s
+row (op.Shl t line) operands s = on_two (binary bin_op.Shl t) line operands s
+row (op.Shr t line) operands s = on_two (binary bin_op.Shr t) line operands s
+row (op.Less t line) operands s = on_two (binary bin_op.Less t) line operands s
+row (op.Greater t line) operands s = on_two (binary bin_op.Greater t) line operands s
+row (op.LessEqual t line) operands s = on_two (binary bin_op.LessEqual t) line operands s
+row (op.GreaterEqual t line) operands s = on_two (binary bin_op.GreaterEqual t) line operands s
+row (op.Equal t line) operands s = on_two (binary bin_op.Equal t) line operands s
+row (op.NotEqual t line) operands s = on_two (binary bin_op.NotEqual t) line operands s
+row (op.And t line) operands s = on_two (binary bin_op.And t) line operands s
+row (op.Xor t line) operands s = on_two (binary bin_op.Xor t) line operands s
+row (op.Or t line) operands s = on_two (binary bin_op.Or t) line operands s
+row (op.Minus t line) operands s = on_one (unary un_op.Minus t) line operands s
+row (op.Complement t line) operands s = on_one (unary un_op.Complement t) line operands s
 row op.GetChar rest s = reads s.input rest s
 row (op.PutChar line) (a ∷ rest) s = puts (nat_lt (length s.output) s.limit) (byte_of a) line rest s
 row o operands s = Stuck

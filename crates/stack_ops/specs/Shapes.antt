@@ -5,7 +5,8 @@ use Rattle.stack_ops.specs.declared.operation.Op.{Op}
 use Rattle.stack_ops.specs.declared.operation.Op.TheVariants as op
 use Rattle.stack_ops.specs.Code.{FunctionValue}
 
--- How many operands an operation takes, and how many it gives. CaseJump gives its operand back where it doesn't go to its target. What
+-- How many operands an operation takes, and how many it gives. CaseJump gives its operand back where it doesn't go to
+-- its target. What
 -- Call and Return take and give depends on the function that is called or that returns; it isn't counted here.
 abbrev pub shape : Op → ℕ × ℕ
 shape (op.Push n) = (0, 1)
@@ -78,7 +79,8 @@ abbrev pub called_gives : Option FunctionValue → ℕ
 called_gives (Some function) = given_by function
 called_gives None = 0
 
--- how many operands an operation takes in a function of a program: Call takes the arguments, Return the number that the function gives
+-- how many operands an operation takes in a function of a program: Call takes the arguments, Return the number that the
+-- function gives
 abbrev pub takes_in : List FunctionValue → FunctionValue → Op → ℕ
 takes_in functions function (op.Call called line) = called_takes (slice_get functions called)
 takes_in functions function op.Return = given_by function

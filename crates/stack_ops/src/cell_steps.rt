@@ -5,6 +5,7 @@ ghost use Rattle.int_ops.specs.Ranges.{IsNumber};
 ghost use Rattle.stack_ops.specs.Effect.{State, Goes, row};
 ghost use Rattle.stack_ops.specs.Groups.{is_cell_step};
 ghost use Rattle.stack_ops.specs.Shapes.{takes, gives, HasCells};
+ghost use Rattle.stack_ops.specs.Steps.{Counts};
 ghost use Rattle.stack_ops.specs.Stack.{operands};
 
 use crate::op_stack::OpStack;
@@ -19,10 +20,15 @@ pub fn cell_step(op: &Op, stack: &mut OpStack, locals: &mut [i128], globals: &mu
     requires stack_numbers { All IsNumber stack.old.numbers }
     requires cell_numbers { All IsNumber locals.old }
     requires global_numbers { All IsNumber globals.old }
-    ensures effect { (s : State) → row op.now (operands stack.old) (record s { cells = locals.old; globals = globals.old })
-        ≡ Goes (record s { operands = operands stack.new; cells = locals.new; globals = globals.new }) }
+    ensures effect { (s : State)
+        → row op.now (operands stack.old) (record s { cells = locals.old; globals = globals.old })
+        ≡ Goes (record s {
+          operands = operands stack.new;
+          cells = locals.new;
+          globals = globals.new;
+        }) }
     ensures room { stack.new.room ≡ stack.old.room }
-    ensures count { length stack.new.numbers + takes op.now ≡ length stack.old.numbers + gives op.now }
+    ensures count { Counts op.now stack.old stack.new }
     ensures stack_numbers { All IsNumber stack.new.numbers }
     ensures cell_numbers { All IsNumber locals.new }
     ensures global_numbers { All IsNumber globals.new }

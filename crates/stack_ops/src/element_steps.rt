@@ -4,9 +4,9 @@ ghost use Rattle.std.specs.Prelude.{◌≡◌, ◌+◌, ◌<◌, ◌≤◌, leng
 ghost use Rattle.int_ops.specs.Ranges.{IsNumber};
 ghost use Rattle.stack_ops.specs.Effect.{State, row, element};
 ghost use Rattle.stack_ops.specs.Groups.{is_element_step};
-ghost use Rattle.stack_ops.specs.Shapes.{takes, gives, HasCells};
+ghost use Rattle.stack_ops.specs.Shapes.{takes, HasCells};
 ghost use Rattle.stack_ops.specs.Stack.{operands};
-ghost use Rattle.stack_ops.specs.Steps.{told};
+ghost use Rattle.stack_ops.specs.Steps.{told, Counts};
 
 use crate::endings::Trap;
 use crate::op_stack::OpStack;
@@ -68,11 +68,17 @@ pub fn element_step(
     requires stack_numbers { All IsNumber stack.old.numbers }
     requires cell_numbers { All IsNumber locals.old }
     requires global_numbers { All IsNumber globals.old }
-    ensures effect { (s : State) → row op.now (operands stack.old) (record s { cells = locals.old; globals = globals.old })
-        ≡ told result (record s { operands = operands stack.new; cells = locals.new; globals = globals.new }) }
-    ensures trapped { OnErr result ((stack.new ≡ stack.old) × (locals.new ≡ locals.old) × (globals.new ≡ globals.old)) }
+    ensures effect { (s : State)
+        → row op.now (operands stack.old) (record s { cells = locals.old; globals = globals.old })
+        ≡ told result (record s {
+          operands = operands stack.new;
+          cells = locals.new;
+          globals = globals.new;
+        }) }
+    ensures trapped { OnErr result
+        ((stack.new ≡ stack.old) × (locals.new ≡ locals.old) × (globals.new ≡ globals.old)) }
     ensures room { stack.new.room ≡ stack.old.room }
-    ensures count { OnOk result (length stack.new.numbers + takes op.now ≡ length stack.old.numbers + gives op.now) }
+    ensures count { OnOk result (Counts op.now stack.old stack.new) }
     ensures stack_numbers { All IsNumber stack.new.numbers }
     ensures cell_numbers { All IsNumber locals.new }
     ensures global_numbers { All IsNumber globals.new }

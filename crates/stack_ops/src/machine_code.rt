@@ -4,7 +4,7 @@ use crate::operation::Op;
 use std::marker::Model;
 
 /// The functions of a program, its globals as they are at the start, and the number of the main function.
-#[derive(Debug, Drop)]
+#[derive(Drop)]
 pub struct Code {
     pub stamp: u32,
     /// The operations count arcs and mark paths.
@@ -29,7 +29,7 @@ impl Model for Code {
 }
 
 /// A function: its parameters come into the first of its cells, its operands have room for its depth.
-#[derive(Debug, Drop)]
+#[derive(Drop)]
 pub struct FunctionCode {
     pub params: u32,
     pub cells: u32,

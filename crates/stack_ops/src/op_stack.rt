@@ -9,7 +9,7 @@ use std::alloc::Global;
 use std::marker::Model;
 
 /// A list of numbers within a room that was taken before, so that adding one can't fail.
-#[derive(Debug, Drop)]
+#[derive(Drop)]
 pub struct OpStack {
     items: Vec<i128>,
     room: u32,
@@ -49,7 +49,8 @@ impl OpStack {
         requires { length self.old.numbers < self.old.room }
         ensures pushed { self.new ≡ record self.old { numbers = self.old.numbers ++ n ∷ [] } }
         ensures top { operands self.new ≡ n ∷ operands self.old }
-        ensures numbers { All IsNumber self.old.numbers → IsNumber n → All IsNumber self.new.numbers }
+        ensures numbers { All IsNumber self.old.numbers → IsNumber n
+            → All IsNumber self.new.numbers }
     {
         self.items.push_reserved(n);
     }
@@ -59,7 +60,8 @@ impl OpStack {
         ensures popped { self.old ≡ record self.new { numbers = self.new.numbers ++ result ∷ [] } }
         ensures room { length self.new.numbers < self.new.room }
         ensures top { operands self.old ≡ result ∷ operands self.new }
-        ensures numbers { All IsNumber self.old.numbers → IsNumber result × All IsNumber self.new.numbers }
+        ensures numbers { All IsNumber self.old.numbers
+            → IsNumber result × All IsNumber self.new.numbers }
     {
         self.items.pop().unwrap()
     }

@@ -5,6 +5,7 @@ ghost use Rattle.int_ops.specs.Ranges.{IsNumber};
 ghost use Rattle.stack_ops.specs.Effect.{State, leaves, row};
 ghost use Rattle.stack_ops.specs.Groups.{is_operand_step};
 ghost use Rattle.stack_ops.specs.Shapes.{takes, gives, HasNumber};
+ghost use Rattle.stack_ops.specs.Steps.{Counts};
 ghost use Rattle.stack_ops.specs.Stack.{operands};
 
 use crate::op_stack::OpStack;
@@ -17,9 +18,10 @@ pub fn operand_step(op: &Op, stack: &mut OpStack)
     requires room { length stack.old.numbers + gives op.now ≤ stack.old.room + takes op.now }
     requires number { HasNumber op.now }
     requires numbers { All IsNumber stack.old.numbers }
-    ensures effect { (s : State) → row op.now (operands stack.old) s ≡ leaves (operands stack.new) s }
+    ensures effect { (s : State)
+        → row op.now (operands stack.old) s ≡ leaves (operands stack.new) s }
     ensures room { stack.new.room ≡ stack.old.room }
-    ensures count { length stack.new.numbers + takes op.now ≡ length stack.old.numbers + gives op.now }
+    ensures count { Counts op.now stack.old stack.new }
     ensures numbers { All IsNumber stack.new.numbers }
 {
     match *op {

@@ -1,13 +1,14 @@
 //! The operators.
 
 ghost use Rattle.std.specs.Prelude.{◌≡◌, ◌+◌, ◌≤◌, length, All, IsTrue, OnErr, OnOk};
-ghost use Rattle.int_ops.specs.Apply.{apply, apply_one};
+ghost use Rattle.int_ops.specs.Apply.{binary, unary};
 ghost use Rattle.int_ops.specs.Ranges.{IsNumber};
-ghost use Rattle.stack_ops.specs.Effect.{State, row, on_two, on_one, trap_of};
+ghost use Rattle.stack_ops.specs.Effect.{State, row, on_two, on_one};
+ghost use Rattle.stack_ops.specs.Effect as spec;
 ghost use Rattle.stack_ops.specs.Groups.{is_binary_step, is_unary_step};
-ghost use Rattle.stack_ops.specs.Shapes.{takes, gives};
+ghost use Rattle.stack_ops.specs.Shapes.{takes};
 ghost use Rattle.stack_ops.specs.Stack.{operands};
-ghost use Rattle.stack_ops.specs.Steps.{told};
+ghost use Rattle.stack_ops.specs.Steps.{told, Counts};
 
 use crate::endings::Trap;
 use crate::op_stack::OpStack;
@@ -15,8 +16,8 @@ use crate::operation::Op;
 use int_ops::{ArithTrap, BinOp, IntType, UnOp, binary, convert, unary};
 
 /// The trap of the same name.
-fn trap_from(why: ArithTrap) -> Trap
-    ensures { result ≡ trap_of why }
+fn trap_of(why: ArithTrap) -> Trap
+    ensures { result ≡ spec.trap_of why }
 {
     match why {
         ArithTrap::Overflow => Trap::Overflow,
@@ -29,7 +30,7 @@ fn trap_from(why: ArithTrap) -> Trap
 fn apply_binary(op: BinOp, t: IntType, line: u32, stack: &mut OpStack) -> Result<(), (Trap, u32)>
     requires operands { 2 ≤ length stack.old.numbers }
     requires numbers { All IsNumber stack.old.numbers }
-    ensures effect { (s : State) → on_two (apply op t) line (operands stack.old) s
+    ensures effect { (s : State) → on_two (binary op t) line (operands stack.old) s
         ≡ told result (record s { operands = operands stack.new }) }
     ensures trapped { OnErr result (stack.new ≡ stack.old) }
     ensures room { stack.new.room ≡ stack.old.room }
@@ -46,7 +47,7 @@ fn apply_binary(op: BinOp, t: IntType, line: u32, stack: &mut OpStack) -> Result
         Err(why) => {
             stack.push(a);
             stack.push(b);
-            Err((trap_from(why), line))
+            Err((trap_of(why), line))
         }
     }
 }
@@ -55,7 +56,7 @@ fn apply_binary(op: BinOp, t: IntType, line: u32, stack: &mut OpStack) -> Result
 fn apply_unary(op: UnOp, t: IntType, line: u32, stack: &mut OpStack) -> Result<(), (Trap, u32)>
     requires operands { 1 ≤ length stack.old.numbers }
     requires numbers { All IsNumber stack.old.numbers }
-    ensures effect { (s : State) → on_one (apply_one op t) line (operands stack.old) s
+    ensures effect { (s : State) → on_one (unary op t) line (operands stack.old) s
         ≡ told result (record s { operands = operands stack.new }) }
     ensures trapped { OnErr result (stack.new ≡ stack.old) }
     ensures room { stack.new.room ≡ stack.old.room }
@@ -70,7 +71,7 @@ fn apply_unary(op: UnOp, t: IntType, line: u32, stack: &mut OpStack) -> Result<(
         }
         Err(why) => {
             stack.push(a);
-            Err((trap_from(why), line))
+            Err((trap_of(why), line))
         }
     }
 }
@@ -84,7 +85,7 @@ pub fn binary_step(op: &Op, stack: &mut OpStack) -> Result<(), (Trap, u32)>
         ≡ told result (record s { operands = operands stack.new }) }
     ensures trapped { OnErr result (stack.new ≡ stack.old) }
     ensures room { stack.new.room ≡ stack.old.room }
-    ensures count { OnOk result (length stack.new.numbers + takes op.now ≡ length stack.old.numbers + gives op.now) }
+    ensures count { OnOk result (Counts op.now stack.old stack.new) }
     ensures numbers { All IsNumber stack.new.numbers }
 {
     macro_rules! by_operator {
@@ -107,7 +108,7 @@ pub fn unary_step(op: &Op, stack: &mut OpStack) -> Result<(), (Trap, u32)>
         ≡ told result (record s { operands = operands stack.new }) }
     ensures trapped { OnErr result (stack.new ≡ stack.old) }
     ensures room { stack.new.room ≡ stack.old.room }
-    ensures count { OnOk result (length stack.new.numbers + takes op.now ≡ length stack.old.numbers + gives op.now) }
+    ensures count { OnOk result (Counts op.now stack.old stack.new) }
     ensures numbers { All IsNumber stack.new.numbers }
 {
     match *op {

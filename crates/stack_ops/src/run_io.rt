@@ -8,7 +8,7 @@ use std::alloc::Global;
 use std::marker::Model;
 
 /// The bytes of the input with a place in them, and the output within a limit whose room was taken before.
-#[derive(Debug, Drop)]
+#[derive(Drop)]
 pub struct RunIo {
     alloc: Global,
     input: Vec<u8>,
@@ -24,7 +24,12 @@ impl Model for RunIo {
     ghost Value = { IoValue };
 
     ghost view = { λ io.
-        record { input = io.input.items; place = io.place; output = io.output.items; limit = io.limit } };
+        record {
+          input = io.input.items;
+          place = io.place;
+          output = io.output.items;
+          limit = io.limit;
+        } };
 
     ghost invariant = { λ io. (io.place ≤ vec_len io.input) × (vec_len io.output ≤ io.limit)
         × (io.limit ≤ vec_capacity io.output) };
@@ -33,7 +38,8 @@ impl Model for RunIo {
 impl RunIo {
     /// No input and no output, with room for limit bytes of output.
     pub fn new(alloc: Global, limit: u32) -> Result<RunIo, NoMemory>
-        ensures { IfOk result (λ io. io ≡ record { input = []; place = 0; output = []; limit = limit }) }
+        ensures { IfOk result
+            (λ io. io ≡ record { input = []; place = 0; output = []; limit = limit }) }
     {
         Ok(RunIo {
             alloc,
@@ -62,6 +68,7 @@ impl RunIo {
         &self.output
     }
 
+    /// Forgets what was put.
     pub fn clear(&mut self)
         ensures { self.new ≡ record self.old { output = [] } }
     {

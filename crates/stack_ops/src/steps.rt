@@ -1,10 +1,9 @@
 //! One step of a machine.
 
-ghost use Rattle.std.specs.Prelude.{◌≡◌, ◌+◌, ◌≤◌, length, All, IsTrue, OnErr, OnOk};
-ghost use Rattle.int_ops.specs.Ranges.{IsNumber};
+ghost use Rattle.std.specs.Prelude.{◌≡◌, ◌+◌, ◌≤◌, length, IsTrue, OnErr, OnOk};
 ghost use Rattle.stack_ops.specs.Effect.{effect};
 ghost use Rattle.stack_ops.specs.Shapes.{takes, gives, is_step, HasCells, HasNumber};
-ghost use Rattle.stack_ops.specs.Steps.{state, told, IsUnchanged, KeepsRoom, AreNumbers};
+ghost use Rattle.stack_ops.specs.Steps.{state, told, Counts, IsUnchanged, KeepsRoom, AreNumbers};
 
 use crate::cell_steps::cell_step;
 use crate::element_steps::element_step;
@@ -30,15 +29,14 @@ pub fn step_op(
     requires cells { HasCells op.now locals.old globals.old }
     requires room { length stack.old.numbers + gives op.now ≤ stack.old.room + takes op.now }
     requires number { HasNumber op.now }
-    requires stack_numbers { All IsNumber stack.old.numbers }
-    requires local_numbers { All IsNumber locals.old }
-    requires global_numbers { All IsNumber globals.old }
+    requires numbers { AreNumbers stack.old locals.old globals.old }
     ensures effect { effect op.now (state stack.old locals.old globals.old io.old)
         ≡ told result (state stack.new locals.new globals.new io.new) }
     ensures trapped { OnErr result
-        (IsUnchanged stack.old stack.new locals.old locals.new globals.old globals.new io.old io.new) }
+        (IsUnchanged stack.old stack.new locals.old locals.new globals.old globals.new
+        io.old io.new) }
     ensures kept { KeepsRoom stack.old stack.new io.old io.new }
-    ensures count { OnOk result (length stack.new.numbers + takes op.now ≡ length stack.old.numbers + gives op.now) }
+    ensures count { OnOk result (Counts op.now stack.old stack.new) }
     ensures numbers { AreNumbers stack.new locals.new globals.new }
 {
     match op {

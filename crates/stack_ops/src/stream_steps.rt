@@ -6,7 +6,7 @@ ghost use Rattle.stack_ops.specs.Effect.{State, row, byte_of, reads, puts};
 ghost use Rattle.stack_ops.specs.Groups.{is_stream_step};
 ghost use Rattle.stack_ops.specs.Shapes.{takes, gives};
 ghost use Rattle.stack_ops.specs.Stack.{operands, bytes_left};
-ghost use Rattle.stack_ops.specs.Steps.{told, KeepsRoom};
+ghost use Rattle.stack_ops.specs.Steps.{told, Counts, KeepsRoom};
 
 use crate::endings::Trap;
 use crate::op_stack::OpStack;
@@ -36,7 +36,7 @@ pub fn stream_step(op: &Op, stack: &mut OpStack, io: &mut RunIo) -> Result<(), (
         }) }
     ensures trapped { OnErr result ((stack.new ≡ stack.old) × (io.new ≡ io.old)) }
     ensures kept { KeepsRoom stack.old stack.new io.old io.new }
-    ensures count { OnOk result (length stack.new.numbers + takes op.now ≡ length stack.old.numbers + gives op.now) }
+    ensures count { OnOk result (Counts op.now stack.old stack.new) }
     ensures numbers { All IsNumber stack.new.numbers }
 {
     match *op {

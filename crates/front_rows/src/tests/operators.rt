@@ -5,8 +5,8 @@ ghost use Rattle.std.specs.Prelude.{IfOk};
 
 use super::operator_rows::{BINARY, UNARY};
 use int_ops::{
-    ArithTrap, BinOp, IntType, Num, UnOp, binary, common_type, convert, greatest, has_sign, is_of,
-    least, promoted, unary, width_of,
+    ArithTrap, BinOp, IntType, Num, UnOp, binary, common_type, convert, greatest, is_in_range,
+    is_signed, least, promoted, unary, width,
 };
 use std::alloc::Global;
 use std::test::*;
@@ -107,15 +107,15 @@ fn each_type_has_its_range_and_its_code(rt: HostRuntime) -> Result<(), Fail> {
     for (t, low, high) in rows {
         assert_eq!(rt; least(t), low);
         assert_eq!(rt; greatest(t), high);
-        assert_eq!(rt; has_sign(t), low < 0);
-        assert!(rt; is_of(t, high));
-        assert!(rt; !is_of(t, 18_446_744_073_709_551_616));
+        assert_eq!(rt; is_signed(t), low < 0);
+        assert!(rt; is_in_range(t, high));
+        assert!(rt; !is_in_range(t, 18_446_744_073_709_551_616));
         assert_eq!(rt; t.code(), code);
         assert_eq!(rt; IntType::from_code(code), Some(t));
         code = code.saturating_add(1);
     }
-    assert_eq!(rt; width_of(IntType::Bool), 1);
-    assert_eq!(rt; width_of(IntType::Short), 16);
+    assert_eq!(rt; width(IntType::Bool), 1);
+    assert_eq!(rt; width(IntType::Short), 16);
     assert_eq!(rt; IntType::from_code(10), None);
     assert_eq!(rt; BinOp::Or.code(), 15);
     assert_eq!(rt; BinOp::from_code(15), Some(BinOp::Or));

@@ -4,9 +4,9 @@ use super::fault_rows::{DEPTH_ROWS, Nested};
 use super::{fault_rows, tree_rows};
 use crate::{TextFault, tree_of_text};
 use c_parser::ParseFault;
-use c_tokens::{LexFault, MOST_BYTES};
+use c_tokens::LexFault;
 use c_tree::Tree;
-use cov_base::Refusal;
+use cov_base::{Refusal, SOURCE_LIMIT};
 use std::alloc::{AllocError, Global};
 use std::process::Abort;
 
@@ -31,7 +31,7 @@ fn brief(alloc: Global, tree: &Tree) -> Result<String, AllocError> {
 }
 
 fn assert_tree(rt: &(impl AllocGlobal + Abort), text: &[u8], form: &str) {
-    assert!(rt; text.len() <= MOST_BYTES);
+    assert!(rt; text.len() <= SOURCE_LIMIT);
     match tree_of_text(rt.alloc(), text) {
         Ok(tree) => match brief(rt.alloc(), &tree) {
             Ok(found) => assert_eq!(rt; found.as_str(), form, "of {text:?}"),
@@ -42,7 +42,7 @@ fn assert_tree(rt: &(impl AllocGlobal + Abort), text: &[u8], form: &str) {
 }
 
 fn assert_fault(rt: &(impl AllocGlobal + Abort), text: &[u8], expected: TextFault) {
-    assert!(rt; text.len() <= MOST_BYTES);
+    assert!(rt; text.len() <= SOURCE_LIMIT);
     match tree_of_text(rt.alloc(), text) {
         Err(Refusal::Refused(fault)) => assert_eq!(rt; fault, expected, "of {text:?}"),
         _ => panic!(rt; "no fault of {text:?}"),
@@ -195,7 +195,7 @@ fn has_tree(rt: &(impl AllocGlobal + Abort), row: &Nested, times: usize) -> bool
     let Ok(text) = repeated(rt.alloc(), row, times) else {
         panic!(rt; "no memory");
     };
-    assert!(rt; text.len() <= MOST_BYTES);
+    assert!(rt; text.len() <= SOURCE_LIMIT);
     match tree_of_text(rt.alloc(), &text) {
         Ok(_) => true,
         Err(Refusal::Refused(TextFault::Parse(ParseFault::TooDeep(_)))) => false,
@@ -222,7 +222,7 @@ fn assert_cut(rt: &(impl AllocGlobal + Abort), row: &Nested, times: usize) {
     let Ok(text) = repeated(rt.alloc(), &cut, times) else {
         panic!(rt; "no memory");
     };
-    assert!(rt; text.len() <= MOST_BYTES);
+    assert!(rt; text.len() <= SOURCE_LIMIT);
     let length = text.len() as u32;
     match tree_of_text(rt.alloc(), &text) {
         Err(Refusal::Refused(TextFault::Parse(ParseFault::Syntax(place)))) => {
@@ -257,7 +257,7 @@ fn long_texts_of_one_mark_are_refused_at_once(rt: HostRuntime) {
         back: b"",
         most: 0,
     };
-    let Ok(text) = repeated(rt.alloc(), &parentheses, MOST_BYTES) else {
+    let Ok(text) = repeated(rt.alloc(), &parentheses, SOURCE_LIMIT) else {
         panic!(rt; "no memory");
     };
     assert_fault(&rt, &text, TextFault::Parse(ParseFault::Syntax(0)));

@@ -1,0 +1,10 @@
+mod ExpressionRuns
+mod GraphRows
+pub mod NameLaws
+pub mod NameRanges
+pub mod OrderLaws
+pub mod StatementNames
+mod StatementRuns
+mod TrapRuns
+mod TypeRuns
+mod WalkRows

@@ -1,0 +1,7 @@
+//! What lowering is: the graphs of a typed source.
+
+#![tactic(auto)]
+
+mod laws;
+
+pub use laws::found_by_number;
