@@ -1,0 +1,9 @@
+use Rattle.lower_agrees.proofs.Whole.{agree}
+use Rattle.lower_agrees.proofs.Targets.{targets_stand}
+use Rattle.lower_agrees.proofs.laws.agreement.Goals as goal
+
+pub returns-clause-agrees : goal.returns-clause-agrees
+returns-clause-agrees c = agree
+
+pub returns-clause-targets : goal.returns-clause-targets
+returns-clause-targets c = targets_stand

@@ -1,0 +1,40 @@
+-- What the layers above cite of a source's graphs: their run does what the source means, and where their endings lead.
+use Rattle.std.specs.Prelude.{◌≡◌, ℕ, ◌+◌, ◌<◌, true, List, length, slice_get, Some}
+use Rattle.c_tree.specs.Typed.{Typed}
+use Rattle.c_tree.specs.Sound.{Sound}
+use Rattle.flow_graph.specs.Graph.{Block, Graph}
+use Rattle.c_lower.specs.Lowered.{unit_of}
+use Rattle.c_meaning.specs.Meaning.{meaning}
+use Rattle.flow_graph.specs.Nets.{targets, among}
+use Rattle.flow_graph.specs.WalkRun.{Walked, WalkRun}
+
+-- On this input and with so many turns, the run of a source's graphs comes to exactly one outcome, and its output and
+-- ending are those of the source's meaning.
+pub record Agrees (source : Typed) (input : List ℕ) (turns : ℕ) : Type 0 where
+  pub walked : Walked
+  pub comes : WalkRun (unit_of source) input turns walked
+  pub alone : (other : Walked) → WalkRun (unit_of source) input turns other → other ≡ walked
+  pub output : walked.output ≡ (meaning source input turns).output
+  pub ending : walked.ending ≡ (meaning source input turns).ending
+
+-- Every sound source agrees with its graphs, on every input and with every number of turns.
+abbrev pub EachSourceAgrees : Type 0
+EachSourceAgrees = (source : Typed) → Sound source → (input : List ℕ) (turns : ℕ) → Agrees source input turns
+
+-- a number is that of a block of the graph behind its first, which is block 2
+pub record IsLater (g : Graph) (target : ℕ) : Type 0 where
+  pub above : 2 < target
+  pub below : target < 2 + length g.blocks
+
+-- A block is one of a graph of the source.
+pub record IsBlockOf (source : Typed) (g : Graph) (b : Block) : Type 0 where
+  pub function : ℕ
+  pub graph : slice_get (unit_of source).graphs function ≡ Some g
+  pub place : ℕ
+  pub block : slice_get g.blocks place ≡ Some b
+
+-- Whatever an ending leads to is a block of the same graph, and none leads to the first.
+abbrev pub EachTargetStands : Type 0
+EachTargetStands =
+    (source : Typed) (g : Graph) (b : Block) → IsBlockOf source g b → (target : ℕ) → among target (targets b.end) ≡ true
+    → IsLater g target

@@ -1,0 +1,11 @@
+//! Laws of lowering. They speak of definitions alone, so that no change of a body proves them again.
+
+ghost use Rattle.lower_agrees.specs.Agreement.{EachSourceAgrees, EachTargetStands};
+
+/// The run of a source's graphs has the output and the ending of the source's meaning, and its endings lead to blocks.
+///
+/// It does nothing: a caller gets its clauses.
+pub fn agreement()
+    ensures agrees { EachSourceAgrees }
+    ensures targets { EachTargetStands }
+{}
