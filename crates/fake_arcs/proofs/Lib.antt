@@ -1,0 +1,9 @@
+pub mod Distinct
+pub mod Lockstep
+pub mod NetOf
+pub mod NewNumbers
+pub mod Ranks
+pub mod Reaching
+pub mod Sums
+pub mod Tidied
+pub mod Worklist

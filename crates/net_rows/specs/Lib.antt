@@ -1,0 +1,2 @@
+pub mod UnitNets
+pub mod WellMade
