@@ -3,7 +3,7 @@ use Rattle.std.proofs.Common.{◌≡◌, ◌∙◌, ap, ℕ, List}
 use Rattle.c_tree.specs.Typed.{Typed}
 use Rattle.c_tree.specs.Sound.{Sound}
 use Rattle.flow_graph.specs.Graph.{GraphUnit}
-use Rattle.flow_graph.specs.Lowered.{unit_of}
+use Rattle.c_lower.specs.Lowered.{unit_of}
 use Rattle.flow_graph.specs.Nets.{pruned}
 use Rattle.fake_arcs.specs.Runs.{renamed_walked}
 use Rattle.fake_arcs.proofs.Lockstep.{keeps_runs, run_there, run_back}

@@ -7,7 +7,7 @@ use Rattle.std.proofs.lemmas.List.Elements.{All-nil, All-cons, All-map}
 use Rattle.int_ops.specs.declared.types.IntType.{IntType}
 use Rattle.int_ops.specs.declared.types.IntType.TheVariants as type
 use Rattle.int_ops.specs.Codes.{type_code}
-use Rattle.int_ops.specs.Common.{common}
+use Rattle.int_ops.specs.Common.{common_type}
 use Rattle.stack_ops.specs.declared.operation.Op.TheVariants as op
 use Rattle.c_tree.specs.declared.expr.Base.{Base}
 use Rattle.c_tree.specs.declared.expr.Base.TheVariants as base
@@ -17,20 +17,22 @@ use Rattle.c_tree.specs.TypedExpr.{TypedExpr, TypedKind, TypedExprs}
 use Rattle.c_tree.specs.TypedStmt.{TypedInit, TypedVar, TypedStmt, OtherTyped, TypedForHead, TypedStmts, TypedItem}
 use Rattle.c_tree.specs.TypedStmt.{TypedItems}
 use Rattle.c_tree.specs.Typed.{TypedFunction, Typed}
-use Rattle.c_tree.specs.Sound.{Scope, IsLine, base_of, class, size, SoundExpr, SoundKind, SoundExprs, SoundInit}
+use Rattle.c_tree.specs.Sound.{Scope, IsLine, SoundExpr, SoundKind, SoundExprs, SoundInit}
+use Rattle.c_tree.specs.TypedParts.{base_of, class, size}
 use Rattle.c_tree.specs.Sound.{SoundVar, SoundVars, SoundStmt, SoundOther, SoundHead, SoundStmts, SoundItem, SoundItems}
 use Rattle.c_tree.specs.Sound.{Inside, Each, SoundAt, behind, behind_first, with_one, SoundReturn, SoundTest, SoundIf}
 use Rattle.cov_base.specs.Net.{ascends}
 use Rattle.flow_graph.specs.Graph.{Block}
-use Rattle.flow_graph.specs.Operands.{type_in, changing}
-use Rattle.flow_graph.specs.Items.{Name, Close, Jump, Back, Branch, CallTo, Leave, Quit, Select, Item, Begin, Do, End}
-use Rattle.flow_graph.specs.Items.{Ways, plain, logic, plainly, converted, dropped, cast, operator, nodes}
-use Rattle.flow_graph.specs.Items.{called, ways, kind_ways, index_of, all_values, loads, stores, named_on, kept}
-use Rattle.flow_graph.specs.Items.{doubled, zeros, elements, initialised, declarations, labelled, group_at, value_if}
-use Rattle.flow_graph.specs.Items.{tested, stepped, code, code_other, codes_of, code_items, items_of, stmt_nodes}
-use Rattle.flow_graph.specs.Items.{other_nodes, nodes_if, init_nodes, gives_number}
-use Rattle.flow_graph.specs.Lowered.{Named, Opened, with_line, add_line, begun, with_op, closed, finished, left_out}
-use Rattle.flow_graph.specs.Lowered.{opened, shut, block_of, named_blocks, graph_of, number_from}
+use Rattle.c_meaning.specs.Operands.{type_in, changing}
+use Rattle.c_lower.specs.Items.{Name, Close, Jump, Back, Branch, CallTo, Leave, Quit, Select, Item, Begin, Do, End}
+use Rattle.c_lower.specs.Items.{Ways, plain, logic, plainly, converted, dropped, cast, operator, nodes}
+use Rattle.c_lower.specs.Items.{called, ways, kind_ways, index_of, all_values, loads, stores, named_on, kept}
+use Rattle.c_lower.specs.Items.{doubled, zeros, elements, initialised, declarations, labelled, group_at, value_if}
+use Rattle.c_lower.specs.Items.{tested, stepped, code, code_other, codes_of, code_items, items_of, stmt_nodes}
+use Rattle.c_lower.specs.Items.{other_nodes, nodes_if, init_nodes, gives_number}
+use Rattle.c_lower.specs.Lowered.{Named, Opened, add_line, begun, with_op, closed, finished, left_out}
+use Rattle.flow_graph.specs.Ascending.{inserted}
+use Rattle.c_lower.specs.Lowered.{opened, shut, block_of, named_blocks, graph_of, number_from}
 use Rattle.fake_arcs.proofs.NetOf.{ascends_line}
 
 abbrev Positive : Option ℕ → Type 0
@@ -140,7 +142,7 @@ mutual
             (named_lined s target h.3, converted_lined t c valued
         ((lined s e (suc m + nodes target) h.4).value done (tt, converted_lined c t stored (tt, l))))))
   kind_lined s (TypedKind.Before o target) b line m a h =
-      let t = type_in b in let c = common t type.Int in
+      let t = type_in b in let c = common_type t type.Int in
       plain_lined _ (λ rest l.
         let stored : List Item = plainly (stores target) rest in
         let done : List Item = plainly (op.Push (pos 1)) (plainly (operator o c line) (converted c t stored)) in
@@ -148,7 +150,7 @@ mutual
             (kept_lined target (Do (loads target) (Some (named_on target)) ∷ converted t c done)
             (named_lined s target h.3, converted_lined t c done (tt, (tt, converted_lined c t stored (tt, l))))))
   kind_lined s (TypedKind.After o target) b line m a h =
-      let t = type_in b in let c = common t type.Int in
+      let t = type_in b in let c = common_type t type.Int in
       plain_lined _ (λ rest l.
         let stored : List Item = plainly (stores target) (plainly op.Drop rest) in
         let done : List Item = plainly (op.Push (pos 1)) (plainly (operator o c line) (converted c t stored)) in

@@ -6,7 +6,7 @@ use Rattle.std.proofs.lemmas.Option.{none-some, same_Some}
 use Rattle.std.proofs.lemmas.List.Elements.{All-nil, All-cons}
 use Rattle.c_tree.specs.Typed.{TypedFunction, Typed}
 use Rattle.c_tree.specs.Sound.{Each, Sound}
-use Rattle.flow_graph.specs.Lowered.{graph_of, unit_of}
+use Rattle.c_lower.specs.Lowered.{graph_of, unit_of}
 use Rattle.fake_arcs.specs.Tidy.{IsWellMade}
 use Rattle.lower_agrees.proofs.Calls.{graph_found}
 use Rattle.lower_agrees.proofs.Targets.{targets_stand}

@@ -3,8 +3,8 @@ use Rattle.std.specs.Prelude.{◌≡◌, ℕ, List}
 use Rattle.std.specs.List.{All}
 use Rattle.c_tree.specs.Typed.{Typed}
 use Rattle.c_tree.specs.Sound.{Sound}
-use Rattle.flow_graph.specs.Lowered.{unit_of}
-use Rattle.flow_graph.specs.Meaning.{meaning}
+use Rattle.c_lower.specs.Lowered.{unit_of}
+use Rattle.c_meaning.specs.Meaning.{meaning}
 use Rattle.flow_graph.specs.Nets.{pruned}
 use Rattle.flow_graph.specs.WalkRun.{Walked, WalkRun}
 use Rattle.fake_arcs.specs.Tidy.{IsWellMade}
