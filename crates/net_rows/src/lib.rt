@@ -1,6 +1,8 @@
 //! Tests of pruning, nets, trees and counters; and the nets of a unit's pruned graphs.
 #![tactic(auto)]
 
+#[cfg(test)]
+mod tests;
 mod unit_nets;
 mod well_made;
 
