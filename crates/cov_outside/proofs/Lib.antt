@@ -1,3 +1,5 @@
 pub mod Causes
+mod FileLaws
 mod Files
+mod ReadSoFar
 mod Whole

@@ -15,7 +15,7 @@ Wrote None after done = after ≡ None
 abbrev pub rest_from : ℕ → List ℕ → List ℕ
 rest_from at bytes = take (length bytes - at) (drop at bytes)
 
-rest_is : (at : ℕ) (bytes : List ℕ) → rest_from at bytes ≡ drop at bytes
+pub rest_is : (at : ℕ) (bytes : List ℕ) → rest_from at bytes ≡ drop at bytes
 rest_is at bytes = take_all _ _ (omega (arith, length-drop at bytes))
 
 -- the part that a write took stays within the bytes

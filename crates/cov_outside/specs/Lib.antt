@@ -1,3 +1,4 @@
+pub mod FileCalls
 pub mod Memory
 pub mod Outside
 pub mod Stores

@@ -8,9 +8,9 @@ use Rattle.cov_outside.specs.declared.sure.SureSource.{SureSource}
 use Rattle.cov_outside.specs.declared.sure.SureSink.{SureSink}
 use Rattle.cov_outside.specs.declared.sure.SureFolder.{SureFolder}
 
--- the bytes left
-abbrev pub source_left : MemSource → List ℕ
-source_left m = m.left
+-- the bytes that no read took yet
+abbrev pub source_remaining : MemSource → List ℕ
+source_remaining m = m.remaining
 
 -- the source's calls, with their faults
 abbrev pub source_log : MemSource → CallLog
@@ -18,7 +18,7 @@ source_log m = m.calls
 
 -- the bytes written
 abbrev pub sink_written : MemSink → List ℕ
-sink_written m = m.kept
+sink_written m = m.written
 
 -- the sink's calls, with their faults
 abbrev pub sink_log : MemSink → CallLog
@@ -30,19 +30,19 @@ sink_wants m = m.wants
 
 -- the files by name
 abbrev pub folder_files : MemFolder → List ℕ → Option (List ℕ)
-folder_files m = last_file m.named
+folder_files m = last_file m.files
 
 -- the folder's calls, with their faults
 abbrev pub folder_log : MemFolder → CallLog
 folder_log m = m.calls
 
--- the bytes left
-abbrev pub sure_left : SureSource → List ℕ
-sure_left s = s.left
+-- the bytes that no read took yet
+abbrev pub sure_remaining : SureSource → List ℕ
+sure_remaining s = s.remaining
 
 -- the bytes written
 abbrev pub sure_written : SureSink → List ℕ
-sure_written s = s.kept
+sure_written s = s.written
 
 -- how often memory was wanting
 abbrev pub sure_wants : SureSink → ℕ
@@ -50,4 +50,4 @@ sure_wants s = s.wants
 
 -- the files by name
 abbrev pub sure_files : SureFolder → List ℕ → Option (List ℕ)
-sure_files s = last_file s.named
+sure_files s = last_file s.files

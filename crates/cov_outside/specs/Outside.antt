@@ -2,10 +2,13 @@
 -- and of wants of memory.
 use Rattle.std.specs.Prelude.{◌≡◌, ◌⊎◌, ◌↔◌, ◌<◌, ◌≤◌, ◌-◌, ◌^◌, ℕ, List, [], ◌++◌, length, take, drop, Option, Some, None, Result, Ok, Err, Vec, bytes_eq, if◌then◌else◌}
 use Rattle.std.specs.Global.{Global}
-use Rattle.cov_outside.specs.declared.faults.Failed.{Failed}
 use Rattle.cov_outside.specs.declared.faults.SinkFault.{SinkFault}
 use Rattle.cov_outside.specs.declared.faults.LoadFault.{LoadFault}
 use Rattle.cov_outside.specs.declared.faults.LoadFault.TheVariants as load_fault
+
+-- The files by name.
+abbrev pub Files : Type 0
+Files = List ℕ → Option (List ℕ)
 
 -- a count rose, or stands at the greatest number that it can hold
 abbrev pub Rose : ℕ → ℕ → Type 0
@@ -17,15 +20,16 @@ pub record HasCause (before now : ℕ) (fault : Type 0) : Type 0 where
   pub stays : before ≡ 2 ^ 64 - 1 → now ≡ 2 ^ 64 - 1
   pub risen : fault → Rose before now
 
--- the first n bytes left were taken and stand at the front of the piece; for a piece with room n is 0 where no byte is left, and only there
+-- The first n bytes were taken and stand at the front of the piece; for a piece with room n is 0 where no byte remains, and only
+-- there.
 pub record TakesFront (before : List ℕ) (after : Option (List ℕ)) (n : ℕ) (piece : List ℕ) : Type 0 where
   pub front : take n piece ≡ take n before
   pub rest : after ≡ Some (drop n before)
   pub enough : n ≤ length before
   pub ends : 0 < length piece → (n ≡ 0) ↔ (before ≡ [])
 
--- what a read does to the bytes left; what isn't told stays untold
-abbrev pub Reads : Option (List ℕ) → Option (List ℕ) → Result ℕ Failed → List ℕ → Type 0
+-- what a read does to the bytes that no read took yet; what isn't told stays untold
+abbrev pub Reads : {E : Type 0} → Option (List ℕ) → Option (List ℕ) → Result ℕ E → List ℕ → Type 0
 Reads (Some before) after (Ok n) piece = TakesFront before after n piece
 Reads (Some before) after (Err fault) piece = after ≡ Some before
 Reads None after result piece = after ≡ None
@@ -48,19 +52,20 @@ IsLonger limit None = ⊥
 IsLonger limit (Some bytes) = limit < length bytes
 
 -- what a load says of the files; Failed and NoMemory say nothing
-abbrev pub Loads : Option (List ℕ → Option (List ℕ)) → List ℕ → ℕ → Result (Option (Vec ℕ Global)) LoadFault → Type 0
+abbrev pub Loads : Option Files → List ℕ → ℕ → Result (Option (Vec ℕ Global)) LoadFault → Type 0
 Loads (Some files) name limit (Ok None) = files name ≡ None
 Loads (Some files) name limit (Ok (Some bytes)) = files name ≡ Some bytes.items
 Loads (Some files) name limit (Err load_fault.TooLong) = IsLonger limit (files name)
-Loads (Some files) name limit (Err fault) = Unit {0}
+Loads (Some files) name limit (Err load_fault.Failed) = Unit {0}
+Loads (Some files) name limit (Err load_fault.NoMemory) = Unit {0}
 Loads None name limit result = Unit {0}
 
 -- the files once these bytes stand under the name
-abbrev pub put_file : List ℕ → List ℕ → (List ℕ → Option (List ℕ)) → List ℕ → Option (List ℕ)
+abbrev pub put_file : List ℕ → List ℕ → Files → Files
 put_file name bytes before other = if bytes_eq name other then Some bytes else before other
 
 -- what a replace does to the files; what isn't told stays untold
-abbrev pub Replaces : Option (List ℕ → Option (List ℕ)) → Option (List ℕ → Option (List ℕ)) → List ℕ → List ℕ → Result (Unit {0}) SinkFault → Type 0
+abbrev pub Replaces : Option Files → Option Files → List ℕ → List ℕ → Result (Unit {0}) SinkFault → Type 0
 Replaces (Some before) after name bytes (Ok done) = after ≡ Some (put_file name bytes before)
 Replaces (Some before) after name bytes (Err fault) = after ≡ Some before
 Replaces None after name bytes result = after ≡ None

@@ -3,6 +3,17 @@ ghost use Rattle.std.specs.Prelude.{◌≡◌};
 
 use std::alloc::{AllocError, AllocFailed};
 
+/// Why a call of the file system wasn't done.
+#[derive(Clone, Copy)]
+pub(crate) enum CallFault {
+    /// The system told an error.
+    Failed,
+    /// The call was interrupted, and may be tried again.
+    Interrupted,
+    /// The system had no memory for it.
+    NoMemory,
+}
+
 /// A read failed.
 #[derive(Clone, Copy, Debug, PartialEq, Eq)]
 pub struct Failed;
@@ -49,5 +60,31 @@ impl From<AllocError> for LoadFault {
 
     fn from(_: AllocError) -> LoadFault {
         LoadFault::NoMemory
+    }
+}
+
+impl From<CallFault> for LoadFault {
+    ghost use Rattle.cov_outside.specs.FileCalls.{load_fault_of};
+
+    ghost from_gives = { λ call fault. fault ≡ load_fault_of call };
+
+    fn from(fault: CallFault) -> LoadFault {
+        match fault {
+            CallFault::Failed | CallFault::Interrupted => LoadFault::Failed,
+            CallFault::NoMemory => LoadFault::NoMemory,
+        }
+    }
+}
+
+impl From<CallFault> for SinkFault {
+    ghost use Rattle.cov_outside.specs.FileCalls.{sink_fault_of};
+
+    ghost from_gives = { λ call fault. fault ≡ sink_fault_of call };
+
+    fn from(fault: CallFault) -> SinkFault {
+        match fault {
+            CallFault::Failed | CallFault::Interrupted => SinkFault::Failed,
+            CallFault::NoMemory => SinkFault::NoMemory,
+        }
     }
 }

@@ -4,18 +4,21 @@
 mod calls;
 mod directory;
 mod faults;
+mod file_calls;
 mod folder;
-mod kept;
-mod left;
 mod memory;
-mod named;
+mod named_files;
+mod remaining_bytes;
 mod sink;
 mod source;
 mod streams;
 mod sure;
+mod system_files;
 #[cfg(test)]
 mod tests;
 mod wants;
+mod whole_files;
+mod written_bytes;
 
 pub use directory::DirFolder;
 pub use faults::{Failed, LoadFault, SinkFault};

@@ -17,9 +17,9 @@ ghost use Rattle.cov_outside.specs.Stores.{Numbered, new_log, wants_after};
 use crate::calls::Calls;
 use crate::faults::{Failed, LoadFault, SinkFault};
 use crate::folder::Folder;
-use crate::kept::Kept;
-use crate::left::Left;
-use crate::named::Named;
+use crate::written_bytes::WrittenBytes;
+use crate::remaining_bytes::RemainingBytes;
+use crate::named_files::NamedFiles;
 use crate::sink::Sink;
 use crate::source::Source;
 use crate::wants::Wants;
@@ -28,49 +28,49 @@ use std::alloc::Global;
 /// Bytes in memory. Each read takes all that fits.
 #[derive(Drop)]
 pub struct MemSource {
-    left: Left,
+    remaining: RemainingBytes,
     calls: Calls,
 }
 
 impl MemSource {
-    ghost use Rattle.cov_outside.specs.Memory.{source_left, source_log};
+    ghost use Rattle.cov_outside.specs.Memory.{source_remaining, source_log};
 
     /// These bytes, of which the calls with these numbers, from 0, fail.
     pub fn new(bytes: Vec<u8>, fails: Vec<u64>) -> MemSource
-        ensures left { source_left result ≡ bytes.items }
+        ensures remaining { source_remaining result ≡ bytes.items }
         ensures calls { source_log result ≡ new_log fails.items }
     {
         MemSource {
-            left: Left::new(bytes),
+            remaining: RemainingBytes::new(bytes),
             calls: Calls::new(fails),
         }
     }
 }
 
 impl Source for MemSource {
-    ghost use Rattle.cov_outside.specs.Memory.{source_left, source_log};
+    ghost use Rattle.cov_outside.specs.Memory.{source_remaining, source_log};
 
-    ghost left = { λ m. Some (source_left m) };
+    ghost remaining = { λ m. Some (source_remaining m) };
 
     ghost faults = { λ m. (source_log m).faults };
 
     fn read(&mut self, into: &mut [u8]) -> Result<usize, Failed>
         ensures fits { IfOk result (λ n. n ≤ length into.new) }
-        ensures reads { Reads (Some (source_left self.old)) (Some (source_left self.new)) result into.new }
+        ensures reads { Reads (Some (source_remaining self.old)) (Some (source_remaining self.new)) result into.new }
         ensures cause { HasCause (source_log self.old).faults (source_log self.new).faults (IsErr result) }
         ensures numbered { Numbered (source_log self.old) (source_log self.new) (IsErr result) }
     {
         if self.calls.fails() {
             return Err(Failed);
         }
-        Ok(self.left.take(into))
+        Ok(self.remaining.take(into))
     }
 }
 
 /// Keeps the bytes that are written. Each write takes the whole piece.
 #[derive(Drop)]
 pub struct MemSink {
-    kept: Kept,
+    written: WrittenBytes,
     calls: Calls,
     wants: Wants,
 }
@@ -85,7 +85,7 @@ impl MemSink {
         ensures wants { sink_wants result ≡ 0 }
     {
         MemSink {
-            kept: Kept::new(alloc),
+            written: WrittenBytes::new(alloc),
             calls: Calls::new(fails),
             wants: Wants::new(),
         }
@@ -94,7 +94,7 @@ impl MemSink {
     pub fn bytes(&self) -> &[u8]
         ensures { result.now ≡ sink_written self.now }
     {
-        self.kept.bytes()
+        self.written.bytes()
     }
 }
 
@@ -119,7 +119,7 @@ impl Sink for MemSink {
         if self.calls.fails() {
             return Err(SinkFault::Failed);
         }
-        let answer = self.kept.append(piece);
+        let answer = self.written.append(piece);
         self.wants.count(&answer);
         answer
     }
@@ -128,7 +128,7 @@ impl Sink for MemSink {
 /// Files in memory. Of two of one name the last counts.
 #[derive(Drop)]
 pub struct MemFolder {
-    named: Named,
+    files: NamedFiles,
     calls: Calls,
 }
 
@@ -142,7 +142,7 @@ impl MemFolder {
         ensures calls { folder_log result ≡ new_log fails.items }
     {
         MemFolder {
-            named: Named::new(alloc, files),
+            files: NamedFiles::new(alloc, files),
             calls: Calls::new(fails),
         }
     }
@@ -150,7 +150,7 @@ impl MemFolder {
     pub fn get(&self, name: &str) -> Option<&[u8]>
         ensures { option_copied result ≡ folder_files self.now name.now }
     {
-        self.named.get(name)
+        self.files.get(name)
     }
 }
 
@@ -172,7 +172,7 @@ impl Folder for MemFolder {
         if self.calls.fails() {
             return Err(LoadFault::Failed);
         }
-        self.named.load(name, limit)
+        self.files.load(name, limit)
     }
 
     fn replace(&mut self, name: &str, bytes: &[u8]) -> Result<(), SinkFault>
@@ -185,6 +185,6 @@ impl Folder for MemFolder {
         if self.calls.fails() {
             return Err(SinkFault::Failed);
         }
-        self.named.replace(name, bytes)
+        self.files.replace(name, bytes)
     }
 }

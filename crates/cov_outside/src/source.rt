@@ -6,16 +6,16 @@ use crate::faults::Failed;
 
 /// Where bytes come from.
 pub trait Source {
-    /// The bytes left, where told.
-    ghost left: { Self → Option (List ℕ) };
+    /// The bytes that no read took yet, where told.
+    ghost remaining: { Self → Option (List ℕ) };
 
     /// How many faults there were.
     ghost faults: { Self → ℕ };
 
-    /// Takes bytes that are left into the front of `into`, and says how many. None for a piece that isn't empty
+    /// Takes the next bytes into the front of `into`, and says how many. None for a piece that isn't empty
     /// is the end. After `Failed` nothing was taken.
     fn read(&mut self, into: &mut [u8]) -> Result<usize, Failed>
         ensures fits { IfOk result (λ n. n ≤ length into.new) }
-        ensures reads { Reads (left self.old) (left self.new) result into.new }
+        ensures reads { Reads (remaining self.old) (remaining self.new) result into.new }
         ensures cause { HasCause (faults self.old) (faults self.new) (IsErr result) };
 }

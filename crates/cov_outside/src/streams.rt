@@ -4,7 +4,7 @@ ghost use Rattle.std.specs.Prelude.{◌≡◌, None};
 use crate::faults::{Failed, SinkFault};
 use crate::sink::Sink;
 use crate::source::Source;
-use std::io::{Read, Write};
+use std::io::{ErrorKind, Read, Write};
 
 /// Standard input, or another reader. The count of faults starts at 0.
 #[derive(Drop)]
@@ -22,18 +22,21 @@ impl<R: Read> StdSource<R> {
 }
 
 impl<R: Read> Source for StdSource<R> {
-    ghost left = { λ s. None };
+    ghost remaining = { λ s. None };
 
     ghost faults = { λ s. s.faults };
 
+    /// An interrupted read is tried again.
     fn read(&mut self, into: &mut [u8]) -> Result<usize, Failed> {
-        match self.reader.read(into) {
-            Ok(count) => Ok(count),
-            Err(_) => {
-                self.faults = self.faults.saturating_add(1);
-                Err(Failed)
+        for _ in 0..u64::MAX {
+            match self.reader.read(into) {
+                Ok(count) => return Ok(count),
+                Err(error) if error.kind() == ErrorKind::Interrupted => {}
+                Err(_) => break,
             }
         }
+        self.faults = self.faults.saturating_add(1);
+        Err(Failed)
     }
 }
 
@@ -59,15 +62,17 @@ impl<W: Write> Sink for StdSink<W> {
 
     ghost wants = { λ s. 0 };
 
-    /// A writer that takes none of a piece that isn't empty has failed.
+    /// A writer that takes none of a piece that isn't empty has failed. An interrupted write is tried again.
     fn write(&mut self, piece: &[u8]) -> Result<usize, SinkFault> {
-        match self.writer.write(piece) {
-            Ok(count) if 0 < count || piece.is_empty() => Ok(count),
-            Ok(_) | Err(_) => {
-                self.faults = self.faults.saturating_add(1);
-                Err(SinkFault::Failed)
+        for _ in 0..u64::MAX {
+            match self.writer.write(piece) {
+                Ok(count) if 0 < count || piece.is_empty() => return Ok(count),
+                Err(error) if error.kind() == ErrorKind::Interrupted => {}
+                Ok(_) | Err(_) => break,
             }
         }
+        self.faults = self.faults.saturating_add(1);
+        Err(SinkFault::Failed)
     }
 }
 

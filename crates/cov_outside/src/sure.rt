@@ -5,9 +5,9 @@ ghost use Rattle.cov_outside.specs.Stores.{wants_after};
 
 use crate::faults::{Failed, LoadFault, SinkFault};
 use crate::folder::Folder;
-use crate::kept::Kept;
-use crate::left::Left;
-use crate::named::Named;
+use crate::written_bytes::WrittenBytes;
+use crate::remaining_bytes::RemainingBytes;
+use crate::named_files::NamedFiles;
 use crate::sink::Sink;
 use crate::source::Source;
 use crate::wants::Wants;
@@ -16,37 +16,37 @@ use std::alloc::Global;
 /// Bytes in memory. No read fails.
 #[derive(Drop)]
 pub struct SureSource {
-    left: Left,
+    remaining: RemainingBytes,
 }
 
 impl SureSource {
-    ghost use Rattle.cov_outside.specs.Memory.{sure_left};
+    ghost use Rattle.cov_outside.specs.Memory.{sure_remaining};
 
     pub fn new(bytes: Vec<u8>) -> SureSource
-        ensures { sure_left result ≡ bytes.items }
+        ensures { sure_remaining result ≡ bytes.items }
     {
         SureSource {
-            left: Left::new(bytes),
+            remaining: RemainingBytes::new(bytes),
         }
     }
 }
 
 impl Source for SureSource {
-    ghost use Rattle.cov_outside.specs.Memory.{sure_left};
+    ghost use Rattle.cov_outside.specs.Memory.{sure_remaining};
 
-    ghost left = { λ s. Some (sure_left s) };
+    ghost remaining = { λ s. Some (sure_remaining s) };
 
     ghost faults = { λ s. 0 };
 
     fn read(&mut self, into: &mut [u8]) -> Result<usize, Failed> {
-        Ok(self.left.take(into))
+        Ok(self.remaining.take(into))
     }
 }
 
 /// Keeps the bytes that are written. A write fails for want of memory alone.
 #[derive(Drop)]
 pub struct SureSink {
-    kept: Kept,
+    written: WrittenBytes,
     wants: Wants,
 }
 
@@ -58,7 +58,7 @@ impl SureSink {
         ensures wants { sure_wants result ≡ 0 }
     {
         SureSink {
-            kept: Kept::new(alloc),
+            written: WrittenBytes::new(alloc),
             wants: Wants::new(),
         }
     }
@@ -66,7 +66,7 @@ impl SureSink {
     pub fn bytes(&self) -> &[u8]
         ensures { result.now ≡ sure_written self.now }
     {
-        self.kept.bytes()
+        self.written.bytes()
     }
 }
 
@@ -86,7 +86,7 @@ impl Sink for SureSink {
         ensures want { HasCause (sure_wants self.old) (sure_wants self.new) (IsErrOf result SinkFault.NoMemory) }
         ensures counted { sure_wants self.new ≡ wants_after result (sure_wants self.old) }
     {
-        let answer = self.kept.append(piece);
+        let answer = self.written.append(piece);
         self.wants.count(&answer);
         answer
     }
@@ -95,7 +95,7 @@ impl Sink for SureSink {
 /// Files in memory. Of two of one name the last counts. No call fails but for want of memory.
 #[derive(Drop)]
 pub struct SureFolder {
-    named: Named,
+    files: NamedFiles,
 }
 
 impl SureFolder {
@@ -106,14 +106,14 @@ impl SureFolder {
         ensures { sure_files result ≡ last_file (plain_files files.items) }
     {
         SureFolder {
-            named: Named::new(alloc, files),
+            files: NamedFiles::new(alloc, files),
         }
     }
 
     pub fn get(&self, name: &str) -> Option<&[u8]>
         ensures { option_copied result ≡ sure_files self.now name.now }
     {
-        self.named.get(name)
+        self.files.get(name)
     }
 }
 
@@ -125,10 +125,10 @@ impl Folder for SureFolder {
     ghost faults = { λ s. 0 };
 
     fn load(&mut self, name: &str, limit: usize) -> Result<Option<Vec<u8>>, LoadFault> {
-        self.named.load(name, limit)
+        self.files.load(name, limit)
     }
 
     fn replace(&mut self, name: &str, bytes: &[u8]) -> Result<(), SinkFault> {
-        self.named.replace(name, bytes)
+        self.files.replace(name, bytes)
     }
 }

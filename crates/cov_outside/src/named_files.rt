@@ -9,12 +9,12 @@ use std::marker::Model;
 
 /// Names with their bytes. Of two files of one name the last counts.
 #[derive(Drop)]
-pub(crate) struct Named {
+pub(crate) struct NamedFiles {
     alloc: Global,
     files: Vec<(String, Vec<u8>)>,
 }
 
-impl Model for Named {
+impl Model for NamedFiles {
     ghost use Rattle.std.specs.Prelude.{List, ℕ};
     ghost use Rattle.cov_outside.specs.Stores.{plain_files};
 
@@ -23,11 +23,11 @@ impl Model for Named {
     ghost view = { λ n. plain_files n.files.items };
 }
 
-impl Named {
-    pub(crate) fn new(alloc: Global, files: Vec<(String, Vec<u8>)>) -> Named
+impl NamedFiles {
+    pub(crate) fn new(alloc: Global, files: Vec<(String, Vec<u8>)>) -> NamedFiles
         ensures { result ≡ plain_files files.items }
     {
-        Named { alloc, files }
+        NamedFiles { alloc, files }
     }
 
     pub(crate) fn get(&self, name: &str) -> Option<&[u8]>

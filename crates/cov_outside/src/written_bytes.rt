@@ -7,11 +7,11 @@ use std::marker::Model;
 
 /// The bytes that were written.
 #[derive(Drop)]
-pub(crate) struct Kept {
+pub(crate) struct WrittenBytes {
     bytes: Vec<u8>,
 }
 
-impl Model for Kept {
+impl Model for WrittenBytes {
     ghost use Rattle.std.specs.Prelude.{List, ℕ};
 
     ghost Value = { List ℕ };
@@ -19,11 +19,11 @@ impl Model for Kept {
     ghost view = { λ k. k.bytes.items };
 }
 
-impl Kept {
-    pub(crate) fn new(alloc: Global) -> Kept
+impl WrittenBytes {
+    pub(crate) fn new(alloc: Global) -> WrittenBytes
         ensures { result ≡ [] }
     {
-        Kept {
+        WrittenBytes {
             bytes: Vec::new(alloc),
         }
     }

@@ -1,6 +1,6 @@
 use Rattle.std.proofs.Common.{rules}
 use Rattle.cov_outside.proofs.Files.{plain_files-push}
-use Rattle.cov_outside.proofs.named.Named.replace.Goals as goal
+use Rattle.cov_outside.proofs.named_files.NamedFiles.replace.Goals as goal
 
 pub returns-clause-replaces : goal.returns-clause-replaces
 returns-clause-replaces c =

@@ -1,7 +1,7 @@
 use Rattle.std.proofs.Common.{◌≡◌, drop, option_copied}
 use Rattle.std.specs.Option.{option_or}
 use Rattle.cov_outside.specs.Stores.{last_file, plain_files}
-use Rattle.cov_outside.proofs.named.Named.get.Given as goal
+use Rattle.cov_outside.proofs.named_files.NamedFiles.get.Given as goal
 
 abbrev pub invariant-loop-own : goal.invariant-loop-own
 invariant-loop-own l =

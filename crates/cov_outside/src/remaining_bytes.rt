@@ -5,12 +5,12 @@ use std::marker::Model;
 
 /// The bytes that are left.
 #[derive(Drop)]
-pub(crate) struct Left {
+pub(crate) struct RemainingBytes {
     bytes: Vec<u8>,
     at: usize,
 }
 
-impl Model for Left {
+impl Model for RemainingBytes {
     ghost use Rattle.std.specs.Prelude.{List, ℕ, drop, length, ◌≤◌};
 
     ghost Value = { List ℕ };
@@ -20,11 +20,11 @@ impl Model for Left {
     ghost invariant = { λ l. l.at ≤ length l.bytes.items };
 }
 
-impl Left {
-    pub(crate) fn new(bytes: Vec<u8>) -> Left
+impl RemainingBytes {
+    pub(crate) fn new(bytes: Vec<u8>) -> RemainingBytes
         ensures { result ≡ bytes.items }
     {
-        Left { bytes, at: 0 }
+        RemainingBytes { bytes, at: 0 }
     }
 
     /// Takes as many bytes as there are and fit.
