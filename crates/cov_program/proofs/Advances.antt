@@ -8,14 +8,14 @@ use Rattle.cov_program.specs.declared.graph.Put.{Put}
 use Rattle.cov_program.specs.declared.graph.Exit.{Exit}
 use Rattle.cov_program.specs.declared.graph.Exit.TheVariants as exit
 use Rattle.cov_program.specs.declared.graph.Block.{Block}
-use Rattle.cov_program.specs.declared.ending.Ending.{Ending}
-use Rattle.cov_program.specs.declared.ending.Ending.TheVariants as ending
-use Rattle.cov_program.specs.Ending.{OutputLimit}
-use Rattle.cov_program.specs.EndingView.{ending_of}
+use Rattle.cov_program.specs.declared.outcome.Outcome.{Outcome}
+use Rattle.cov_program.specs.declared.outcome.Outcome.TheVariants as outcome
+use Rattle.cov_program.specs.Outcome.{OutputLimit}
+use Rattle.cov_program.specs.OutcomeView.{outcome_of}
 use Rattle.cov_program.specs.Graph.{Op}
 use Rattle.cov_program.specs.GraphView.{puts_ops, exit_ops, exit_of, block_of}
 use Rattle.cov_program.specs.WalkRun.{Moment, Step, Goes, Over, do_ops, leaves, over, goes_to, goes_back as goes_back_to, step_in, truth}
-use Rattle.cov_program.specs.CoverText.{output_limit}
+use Rattle.cov_base.specs.Limits.{output_limit}
 use Rattle.cov_program.specs.Advance.{Position, Advance, Onward, Ended, Putted, put_each, passed, tested, leaves_by, unless_full, advanced}
 
 -- the moment of a run at a place with its walk
@@ -23,15 +23,15 @@ abbrev pub moment_at : Position → List ℕ → Moment
 moment_at p walk = record { block = p.block; input = p.input; output = p.output; turns = p.turns; walk = walk }
 
 -- the walk of a run that ends
-abbrev pub walk_to : Ending → List ℕ → List ℕ
-walk_to (ending.Returned status) walk = walk ++ 1 ∷ []
-walk_to (ending.OutputLimit line) walk = walk
-walk_to ending.OutOfTurns walk = walk
+abbrev pub walk_to : Outcome → List ℕ → List ℕ
+walk_to (outcome.Returned status) walk = walk ++ 1 ∷ []
+walk_to (outcome.OutputLimit line) walk = walk
+walk_to outcome.OutOfTurns walk = walk
 
 -- the step that the walker makes, after this walk
 abbrev pub step_of : Advance → List ℕ → Step
 step_of (Onward p) walk = Goes (moment_at p (walk ++ p.block ∷ []))
-step_of (Ended e p) walk = Over (record { output = p.output; ending = ending_of e; walk = walk_to e walk })
+step_of (Ended e p) walk = Over (record { output = p.output; outcome = outcome_of e; walk = walk_to e walk })
 
 -- what follows a row of `putchar`s
 abbrev then_ops : ℕ → Putted → List Op → Moment → (List ℤ → Moment → Step) → Step
@@ -57,13 +57,13 @@ puts_do most (p ∷ ps) ops m go =
 -- a way back does what it says
 back_does : (arc target : ℕ) (p : Position) (walk : List ℕ) (n : ℕ)
     → goes_back_to target n (moment_at p walk)
-    ≡ step_of (if n == 0 then Ended ending.OutOfTurns p else Onward (passed arc target (record p { turns = n - 1 }))) walk
+    ≡ step_of (if n == 0 then Ended outcome.OutOfTurns p else Onward (passed arc target (record p { turns = n - 1 }))) walk
 back_does arc target p walk zero = refl
 back_does arc target p walk (suc n) =
     let e : n ≡ suc n - 1 = omega arith in
     let some : (suc n == 0) ≡ false = ne_eqb (suc n) 0 (λ f. absurd (omega arith)) in
     let next : Position = record p { turns = suc n - 1 } in
-    subst (λ v. goes_to target (record (moment_at p walk) { turns = n }) ≡ step_of (if v then Ended ending.OutOfTurns p else Onward (passed arc target next)) walk) (sym some)
+    subst (λ v. goes_to target (record (moment_at p walk) { turns = n }) ≡ step_of (if v then Ended outcome.OutOfTurns p else Onward (passed arc target next)) walk) (sym some)
     (ap (λ n. Goes (record (moment_at p walk) { block = target; turns = n; walk = walk ++ target ∷ [] })) e)
 
 -- a test goes one way where the byte is the other, else the other way

@@ -10,8 +10,8 @@ use Rattle.cov_base.specs.Walks.{is_of_line}
 use Rattle.cov_base.proofs.NetLaws.{HasShape-from_IsNet, suits-from_Suit}
 use Rattle.cov_base.specs.declared.net.FlowArc.{FlowArc}
 use Rattle.cov_program.specs.CoverText.{is_code_line}
-use Rattle.cov_program.specs.Counts.{count_at, entering, counted}
-use Rattle.cov_program.specs.CountSteps.{holds, count_or_zero, begun, all_begun, added_at, added, lines_at, arc_added, all_added}
+use Rattle.cov_program.specs.Counts.{count_at, entering, count_by_arcs}
+use Rattle.cov_program.specs.CountSteps.{holds, count_or_zero, begin_lines, begin_all, add_at, add_to_lines, lines_at, add_arc, add_arcs}
 
 -- lines that ascend from above a number don't hold it, nor a lesser one
 absent : (low line : ℕ) (lines : List ℕ) → ascends low lines ≡ true → line ≤ low → holds lines line ≡ false
@@ -22,18 +22,18 @@ absent low line (x ∷ xs) up le =
     or_from _ _ (ne_eqb x line (λ e. omega arith)) (absent x line xs parts.1 (omega arith))
 
 -- a step that adds to one line or to none leaves the others
-other_kept : (b : Bool) (counts : List (Option ℕ)) (x line n : ℕ) → line ≢ x → count_at (cond b counts (added_at x n counts)) line ≡ count_at counts line
+other_kept : (b : Bool) (counts : List (Option ℕ)) (x line n : ℕ) → line ≢ x → count_at (cond b counts (add_at x n counts)) line ≡ count_at counts line
 other_kept true counts x line n ne = refl
 other_kept false counts x line n ne = get_or-set_other counts x line (Some (count_or_zero counts x + n)) None ne
 
 -- and adds to the one, where it does
 one_added : (b : Bool) (counts : List (Option ℕ)) (x n : ℕ) → x < length counts
-    → count_at (cond b counts (added_at x n counts)) x ≡ cond (not b) (Some (count_or_zero counts x + n)) (count_at counts x)
+    → count_at (cond b counts (add_at x n counts)) x ≡ cond (not b) (Some (count_or_zero counts x + n)) (count_at counts x)
 one_added true counts x n low = refl
 one_added false counts x n low = get_or-set_same counts x (Some (count_or_zero counts x + n)) None low
 
 -- and keeps how many there are
-step_length : (b : Bool) (counts : List (Option ℕ)) (x n : ℕ) → length (cond b counts (added_at x n counts)) ≡ length counts
+step_length : (b : Bool) (counts : List (Option ℕ)) (x n : ℕ) → length (cond b counts (add_at x n counts)) ≡ length counts
 step_length true counts x n = refl
 step_length false counts x n = length-set counts x (Some (count_or_zero counts x + n))
 
@@ -44,17 +44,17 @@ and_held false b h = refl
 
 -- What a line's count is after a number was added to those of lines that ascend, but for others.
 pub added_law : (n : ℕ) (others lines : List ℕ) (low : ℕ) (counts : List (Option ℕ)) (line : ℕ) → ascends low lines ≡ true → line < length counts
-    → count_at (added n others lines counts) line
+    → count_at (add_to_lines n others lines counts) line
     ≡ cond (not (holds others line) && holds lines line) (Some (count_or_zero counts line + n)) (count_at counts line)
 added_law n others [] low counts line up in_range = sym (cond-false _ _ _ (and_right (not (holds others line)) false refl))
 added_law n others (x ∷ xs) low counts line up in_range =
     let parts = and_parts (ltb low x) (ascends x xs) up in
-    let next = cond (holds others x) counts (added_at x n counts) in
+    let next = cond (holds others x) counts (add_at x n counts) in
     let e : length next ≡ length counts = step_length (holds others x) counts x n in
     let rest = added_law n others xs x next line parts.1 (omega arith) in
     elim (cases_eq line x) [
       | inl same ↦ (
-          let P : ℕ → Type 0 = λ y. count_at (added n others (x ∷ xs) counts) y
+          let P : ℕ → Type 0 = λ y. count_at (add_to_lines n others (x ∷ xs) counts) y
           ≡ cond (not (holds others y) && holds (x ∷ xs) y) (Some (count_or_zero counts y + n)) (count_at counts y) in
           let within : x < length counts = omega arith in
           let inside : x < length next = omega arith in
@@ -73,23 +73,23 @@ added_law n others (x ∷ xs) low counts line up in_range =
     ]
 
 -- how many counts there are stays
-added_length : (n : ℕ) (others lines : List ℕ) (counts : List (Option ℕ)) → length (added n others lines counts) ≡ length counts
+added_length : (n : ℕ) (others lines : List ℕ) (counts : List (Option ℕ)) → length (add_to_lines n others lines counts) ≡ length counts
 added_length n others [] counts = refl
 added_length n others (x ∷ xs) counts =
-    added_length n others xs (cond (holds others x) counts (added_at x n counts)) ∙ step_length (holds others x) counts x n
+    added_length n others xs (cond (holds others x) counts (add_at x n counts)) ∙ step_length (holds others x) counts x n
 
 -- a number added to lines that ascend adds at most itself to the count of each line
 pub added_le : (n : ℕ) (others lines : List ℕ) (counts : List (Option ℕ)) (line : ℕ) → ascends 0 lines ≡ true
-    → count_or_zero (added n others lines counts) line ≤ count_or_zero counts line + n
+    → count_or_zero (add_to_lines n others lines counts) line ≤ count_or_zero counts line + n
 added_le n others lines counts line up =
     elim (cases_lt line (length counts)) [
       | inl low ↦ subst (λ c. unwrap_or c 0 ≤ count_or_zero counts line + n) (sym (added_law n others lines 0 counts line up low))
           (cond_both (not (holds others line) && holds lines line) (Some (count_or_zero counts line + n)) (count_at counts line)
           (λ c. unwrap_or c 0 ≤ count_or_zero counts line + n) (λ _. omega arith) (λ _. omega arith))
       | inr past ↦ (
-          let none : count_at (added n others lines counts) line ≡ None =
-          get_or_past (added n others lines counts) line None (omega (arith, added_length n others lines counts)) in
-          let zero : count_or_zero (added n others lines counts) line ≡ 0 = ap (λ c. unwrap_or c 0) none in
+          let none : count_at (add_to_lines n others lines counts) line ≡ None =
+          get_or_past (add_to_lines n others lines counts) line None (omega (arith, added_length n others lines counts)) in
+          let zero : count_or_zero (add_to_lines n others lines counts) line ≡ 0 = ap (λ c. unwrap_or c 0) none in
           omega (arith, zero))
     ]
 
@@ -113,7 +113,7 @@ ascends_at low (x ∷ xs) (suc i) (suc k) up less within = ascends_at x xs i k (
 pub fresh_more : (n : ℕ) (others lines : List ℕ) (counts first : List (Option ℕ)) (i : ℕ) → ascends 0 lines ≡ true
     → ((k : ℕ) → i ≤ k → k < length lines → count_or_zero counts (get_or lines k 0) ≡ count_or_zero first (get_or lines k 0))
     → (k : ℕ) → i + 1 ≤ k → k < length lines
-    → count_or_zero (cond (holds others (get_or lines i 0)) counts (added_at (get_or lines i 0) n counts)) (get_or lines k 0) ≡ count_or_zero first (get_or lines k 0)
+    → count_or_zero (cond (holds others (get_or lines i 0)) counts (add_at (get_or lines i 0) n counts)) (get_or lines k 0) ≡ count_or_zero first (get_or lines k 0)
 fresh_more n others lines counts first i up fresh k more within =
     let above = ascends_at 0 lines i k up (omega arith) within in
     ap (λ c. unwrap_or c 0) (other_kept (holds others (get_or lines i 0)) counts (get_or lines i 0) (get_or lines k 0) n (λ e. omega (arith, above)))
@@ -121,7 +121,7 @@ fresh_more n others lines counts first i up fresh k more within =
 
 -- lines that are begun have the count 0
 begun_at : (lines : List ℕ) (counts : List (Option ℕ)) (line : ℕ) → line < length counts
-    → count_at (begun lines counts) line ≡ cond (holds lines line) (Some 0) (count_at counts line)
+    → count_at (begin_lines lines counts) line ≡ cond (holds lines line) (Some 0) (count_at counts line)
 begun_at [] counts line low = refl
 begun_at (x ∷ xs) counts line low =
     let next = set counts x (Some 0) in
@@ -142,7 +142,7 @@ begun_at (x ∷ xs) counts line low =
     one false x = refl
 
 -- how many counts there are stays where lines are begun
-begun_length : (lines : List ℕ) (counts : List (Option ℕ)) → length (begun lines counts) ≡ length counts
+begun_length : (lines : List ℕ) (counts : List (Option ℕ)) → length (begin_lines lines counts) ≡ length counts
 begun_length [] counts = refl
 begun_length (x ∷ xs) counts = begun_length xs (set counts x (Some 0)) ∙ length-set counts x (Some 0)
 
@@ -152,10 +152,10 @@ any_holds lists line = list_any (λ lines. holds lines line) lists
 
 -- lines that some list holds are begun, the others stay
 all_begun_at : (lists : List (List ℕ)) (counts : List (Option ℕ)) (line : ℕ) → line < length counts
-    → count_at (all_begun lists counts) line ≡ cond (any_holds lists line) (Some 0) (count_at counts line)
+    → count_at (begin_all lists counts) line ≡ cond (any_holds lists line) (Some 0) (count_at counts line)
 all_begun_at [] counts line low = refl
 all_begun_at (lines ∷ lists) counts line low =
-    all_begun_at lists (begun lines counts) line (omega (arith, begun_length lines counts))
+    all_begun_at lists (begin_lines lines counts) line (omega (arith, begun_length lines counts))
     ∙ ap (λ c. cond (any_holds lists line) (Some 0) c) (begun_at lines counts line low)
     ∙ joined (holds lines line) (any_holds lists line) (Some 0) (count_at counts line)
   where
@@ -166,13 +166,13 @@ all_begun_at (lines ∷ lists) counts line low =
     joined false false x y = refl
 
 -- how many counts there are stays where all lists are begun
-all_begun_length : (lists : List (List ℕ)) (counts : List (Option ℕ)) → length (all_begun lists counts) ≡ length counts
+all_begun_length : (lists : List (List ℕ)) (counts : List (Option ℕ)) → length (begin_all lists counts) ≡ length counts
 all_begun_length [] counts = refl
-all_begun_length (lines ∷ lists) counts = all_begun_length lists (begun lines counts) ∙ begun_length lines counts
+all_begun_length (lines ∷ lists) counts = all_begun_length lists (begin_lines lines counts) ∙ begun_length lines counts
 
 -- Past the last of the lists nothing is left to begin.
-pub all_begun_end : (lists : List (List ℕ)) (i : ℕ) (counts : List (Option ℕ)) → length lists ≤ i → all_begun (drop i lists) counts ≡ counts
-all_begun_end lists i counts past = ap (λ l. all_begun l counts) (drop_all i lists past)
+pub all_begun_end : (lists : List (List ℕ)) (i : ℕ) (counts : List (Option ℕ)) → length lists ≤ i → begin_all (drop i lists) counts ≡ counts
+all_begun_end lists i counts past = ap (λ l. begin_all l counts) (drop_all i lists past)
 
 -- a line that no list holds isn't in the one at an index
 none_holds : (lists : List (List ℕ)) (line i : ℕ) → any_holds lists line ≡ false → holds (get_or lists i []) line ≡ false
@@ -231,7 +231,7 @@ enters net line arc = not (is_of_line net line arc.from) && is_of_line net line 
 
 -- what a line's count is then
 arc_law : (net : NetValue) → IsNet net → (arc : FlowArc) → is_outside net.blocks arc ≡ false → (n : ℕ) (counts : List (Option ℕ)) (line : ℕ) → line < length counts
-    → count_at (arc_added net arc n counts) line ≡ cond (enters net line arc) (Some (count_or_zero counts line + n)) (count_at counts line)
+    → count_at (add_arc net arc n counts) line ≡ cond (enters net line arc) (Some (count_or_zero counts line + n)) (count_at counts line)
 arc_law net is arc inside n counts line low =
     let ends = ends_within net.blocks arc inside in
     added_law n (lines_at net arc.from) (lines_at net arc.to) 0 counts line (lines_ascend net is arc.to ends.1) low
@@ -239,7 +239,7 @@ arc_law net is arc inside n counts line low =
     ∙ ap (λ b. cond (not (is_of_line net line arc.from) && b) (Some (count_or_zero counts line + n)) (count_at counts line)) (sym (of_line net is arc.to line ends.1))
 
 -- how many counts there are stays where an arc is added
-arc_length : (net : NetValue) (arc : FlowArc) (n : ℕ) (counts : List (Option ℕ)) → length (arc_added net arc n counts) ≡ length counts
+arc_length : (net : NetValue) (arc : FlowArc) (n : ℕ) (counts : List (Option ℕ)) → length (add_arc net arc n counts) ≡ length counts
 arc_length net arc n counts = added_length n (lines_at net arc.from) (lines_at net arc.to) counts
 
 -- arcs with both ends among the blocks
@@ -249,12 +249,12 @@ AllInside blocks arcs = All (λ arc. is_outside blocks arc ≡ false) arcs
 -- a count that was begun gets the counters of the arcs that enter the line
 all_added_some : (net : NetValue) → IsNet net → (arcs : List FlowArc) → AllInside net.blocks arcs → (counters : List ℕ) (counts : List (Option ℕ)) (line count : ℕ)
     → line < length counts → count_at counts line ≡ Some count
-    → count_at (all_added net arcs counters counts) line ≡ Some (count + entering net line arcs counters)
+    → count_at (add_arcs net arcs counters counts) line ≡ Some (count + entering net line arcs counters)
 all_added_some net is [] inside counters counts line count low was = was ∙ ap Some (omega arith)
 all_added_some net is (arc ∷ arcs) inside [] counts line count low was = was ∙ ap Some (omega arith)
 all_added_some net is (arc ∷ arcs) inside (n ∷ counters) counts line count low was =
     let here = All-head (λ a. is_outside net.blocks a ≡ false) arc arcs inside in
-    let next = arc_added net arc n counts in
+    let next = add_arc net arc n counts in
     let more : ℕ = cond (enters net line arc) n 0 in
     let is_next : count_at next line ≡ Some (count + more) =
     arc_law net is arc here n counts line low
@@ -269,13 +269,13 @@ all_added_some net is (arc ∷ arcs) inside (n ∷ counters) counts line count l
 
 -- the count of a line of no block stays
 all_added_none : (net : NetValue) → IsNet net → (arcs : List FlowArc) → AllInside net.blocks arcs → (counters : List ℕ) (counts : List (Option ℕ)) (line : ℕ)
-    → line < length counts → any_holds net.lines line ≡ false → count_at (all_added net arcs counters counts) line ≡ count_at counts line
+    → line < length counts → any_holds net.lines line ≡ false → count_at (add_arcs net arcs counters counts) line ≡ count_at counts line
 all_added_none net is [] inside counters counts line low none = refl
 all_added_none net is (arc ∷ arcs) inside [] counts line low none = refl
 all_added_none net is (arc ∷ arcs) inside (n ∷ counters) counts line low none =
     let here = All-head (λ a. is_outside net.blocks a ≡ false) arc arcs inside in
     let ends = ends_within net.blocks arc here in
-    let next = arc_added net arc n counts in
+    let next = add_arc net arc n counts in
     let not_to : is_of_line net line arc.to ≡ false = of_line net is arc.to line ends.1 ∙ none_holds net.lines line arc.to none in
     let not_in : enters net line arc ≡ false = and_right (not (is_of_line net line arc.from)) (is_of_line net line arc.to) not_to in
     all_added_none net is arcs (All-tail (λ a. is_outside net.blocks a ≡ false) arc arcs inside) counters next line
@@ -284,30 +284,30 @@ all_added_none net is (arc ∷ arcs) inside (n ∷ counters) counts line low non
     ∙ cond-false (enters net line arc) (Some (count_or_zero counts line + n)) (count_at counts line) not_in
 
 -- how many counts there are stays where all arcs are added
-all_added_length : (net : NetValue) (arcs : List FlowArc) (counters : List ℕ) (counts : List (Option ℕ)) → length (all_added net arcs counters counts) ≡ length counts
+all_added_length : (net : NetValue) (arcs : List FlowArc) (counters : List ℕ) (counts : List (Option ℕ)) → length (add_arcs net arcs counters counts) ≡ length counts
 all_added_length net [] counters counts = refl
 all_added_length net (arc ∷ arcs) [] counts = refl
 all_added_length net (arc ∷ arcs) (n ∷ counters) counts =
-    all_added_length net arcs counters (arc_added net arc n counts) ∙ arc_length net arc n counts
+    all_added_length net arcs counters (add_arc net arc n counts) ∙ arc_length net arc n counts
 
 -- The counters of one more arc.
 pub all_added_more : (net : NetValue) (arcs : List FlowArc) (counters : List ℕ) (counts : List (Option ℕ)) (i : ℕ) (d : FlowArc)
     → i < length arcs → i < length counters
-    → all_added net (drop i arcs) (drop i counters) counts
-    ≡ all_added net (drop (i + 1) arcs) (drop (i + 1) counters) (arc_added net (get_or arcs i d) (get_or counters i 0) counts)
+    → add_arcs net (drop i arcs) (drop i counters) counts
+    ≡ add_arcs net (drop (i + 1) arcs) (drop (i + 1) counters) (add_arc net (get_or arcs i d) (get_or counters i 0) counts)
 all_added_more net arcs counters counts i d in_arcs in_counters =
-    at_drop_more (λ xs. all_added net xs (drop i counters) counts) arcs i d in_arcs
-    ∙ at_drop_more (λ ns. all_added net (get_or arcs i d ∷ drop (i + 1) arcs) ns counts) counters i 0 in_counters
+    at_drop_more (λ xs. add_arcs net xs (drop i counters) counts) arcs i d in_arcs
+    ∙ at_drop_more (λ ns. add_arcs net (get_or arcs i d ∷ drop (i + 1) arcs) ns counts) counters i 0 in_counters
 
 -- counts that were begun are 0
-pub begun_zero : (lists : List (List ℕ)) (size line : ℕ) → count_or_zero (all_begun lists (replicate size None)) line ≡ 0
+pub begun_zero : (lists : List (List ℕ)) (size line : ℕ) → count_or_zero (begin_all lists (replicate size None)) line ≡ 0
 begun_zero lists size line =
     elim (cases_lt line size) [
       | inl low ↦
           ap (λ c. unwrap_or c 0) (all_begun_at lists (replicate size None) line (omega (arith, length-replicate {A = Option ℕ} size None)))
           ∙ ap (λ c. unwrap_or (cond (any_holds lists line) (Some 0) c) 0) (get_or-replicate size line None None low)
           ∙ zero (any_holds lists line)
-      | inr past ↦ ap (λ c. unwrap_or c 0) (get_or_past (all_begun lists (replicate size None)) line None
+      | inr past ↦ ap (λ c. unwrap_or c 0) (get_or_past (begin_all lists (replicate size None)) line None
           (omega (arith, all_begun_length lists (replicate size None), length-replicate {A = Option ℕ} size None)))
     ]
   where
@@ -317,35 +317,35 @@ begun_zero lists size line =
 
 -- As many counts as were asked for.
 pub counts_length : (net : NetValue) (counters : List ℕ) (size : ℕ)
-    → length (all_added net net.arcs counters (all_begun net.lines (replicate size None))) ≡ size
+    → length (add_arcs net net.arcs counters (begin_all net.lines (replicate size None))) ≡ size
 counts_length net counters size =
-    all_added_length net net.arcs counters (all_begun net.lines (replicate size None))
+    all_added_length net net.arcs counters (begin_all net.lines (replicate size None))
     ∙ all_begun_length net.lines (replicate size None) ∙ length-replicate size None
 
 -- What the steps make is each line's count.
 pub counts_law : (net : NetValue) → IsNet net → (counters : List ℕ) (size line : ℕ) → line < size
-    → count_at (all_added net net.arcs counters (all_begun net.lines (replicate size None))) line ≡ counted net counters line
+    → count_at (add_arcs net net.arcs counters (begin_all net.lines (replicate size None))) line ≡ count_by_arcs net counters line
 counts_law net is counters size line low =
     let first : List (Option ℕ) = replicate size None in
     let inside = (HasShape-from_IsNet net is).inside in
     let size_is : length first ≡ size = length-replicate size None in
-    let begun_size : length (all_begun net.lines first) ≡ size = all_begun_length net.lines first ∙ size_is in
-    let start : count_at (all_begun net.lines first) line ≡ cond (any_holds net.lines line) (Some 0) None =
+    let begun_size : length (begin_all net.lines first) ≡ size = all_begun_length net.lines first ∙ size_is in
+    let start : count_at (begin_all net.lines first) line ≡ cond (any_holds net.lines line) (Some 0) None =
     all_begun_at net.lines first line (omega arith) ∙ ap (λ c. cond (any_holds net.lines line) (Some 0) c) (get_or-replicate size line None None low) in
     elim (cases_Bool (any_holds net.lines line)) [
       | inl holds ↦
-          all_added_some net is net.arcs inside counters (all_begun net.lines first) line 0 (omega arith) (start ∙ cond-true (any_holds net.lines line) (Some 0) None holds)
+          all_added_some net is net.arcs inside counters (begin_all net.lines first) line 0 (omega arith) (start ∙ cond-true (any_holds net.lines line) (Some 0) None holds)
           ∙ ap Some (omega arith)
           ∙ sym (cond-true (is_code_line (net ∷ []) line) (Some (entering net line net.arcs counters)) None (or_left (any_holds net.lines line) false holds))
       | inr none ↦
-          all_added_none net is net.arcs inside counters (all_begun net.lines first) line (omega arith) none
+          all_added_none net is net.arcs inside counters (begin_all net.lines first) line (omega arith) none
           ∙ start ∙ cond-false (any_holds net.lines line) (Some 0) None none
           ∙ sym (cond-false (is_code_line (net ∷ []) line) (Some (entering net line net.arcs counters)) None (or_from (any_holds net.lines line) false none refl))
     ]
 
 -- After one more arc's counter no count is above as many times the limit of a counter.
 pub arc_room : (net : NetValue) → IsNet net → (arc : FlowArc) (n : ℕ) (counts : List (Option ℕ)) (i line limit : ℕ) → arc.to < net.blocks → n ≤ limit
-    → count_or_zero counts line ≤ i * limit → count_or_zero (arc_added net arc n counts) line ≤ (i + 1) * limit
+    → count_or_zero counts line ≤ i * limit → count_or_zero (add_arc net arc n counts) line ≤ (i + 1) * limit
 arc_room net is arc n counts i line limit low small room =
     let more = added_le n (lines_at net arc.from) (lines_at net arc.to) counts line (lines_ascend net is arc.to low) in
     omega (arith, more)

@@ -8,7 +8,7 @@ pub mod GraphNet
 pub mod LineCounts
 pub mod RunMoves
 pub mod CountLaws
-pub mod Outcomes
+pub mod Traces
 pub mod Placed
 pub mod Simulation
 pub mod Agree
@@ -26,3 +26,4 @@ pub mod WalkLoop
 pub mod FormSizes
 pub mod RenderLaws
 pub mod Complete
+pub mod Asked

@@ -9,11 +9,11 @@ use Rattle.cov_base.proofs.WalkLaws.{line_passages-of_one_net}
 use Rattle.cov_base.specs.declared.net.FlowArc.{FlowArc}
 use Rattle.cov_program.specs.FirstForm.{Form, loops_of}
 use Rattle.cov_program.specs.Graph.{graph_of}
-use Rattle.cov_program.specs.WalkRun.{Outcome, WalkRun}
+use Rattle.cov_program.specs.WalkRun.{Trace, WalkRun}
 use Rattle.cov_program.specs.Nets.{net_of}
 use Rattle.cov_program.specs.CoverText.{is_code_line, line_count}
 use Rattle.cov_program.specs.Walked.{counters_of}
-use Rattle.cov_program.specs.Counts.{entering, counted}
+use Rattle.cov_program.specs.Counts.{entering, count_by_arcs}
 use Rattle.cov_program.proofs.Exits.{graph_exits}
 use Rattle.cov_program.proofs.GraphNet.{graph_net}
 use Rattle.cov_program.proofs.RunMoves.{walk_along}
@@ -47,7 +47,7 @@ entering_none net line (arc ∷ arcs) (counter ∷ counters) h =
 
 -- After a walk along a net's arcs the counts of lines by the arcs' counters are those of the walk.
 pub counted_so : (net : NetValue) → IsNet net → (walk : List ℕ) → GoesAlong net.arcs walk → (line : ℕ)
-    → counted net (counters_of net.arcs walk) line ≡ line_count (net ∷ []) (record { function = 0; blocks = walk } ∷ []) line
+    → count_by_arcs net (counters_of net.arcs walk) line ≡ line_count (net ∷ []) (record { function = 0; blocks = walk } ∷ []) line
 counted_so net is walk along line =
     let w : Walk = record { function = 0; blocks = walk } in
     let passed = entering_sum net line _ (passages (w ∷ []) 0) (λ arc. omega arith) net.arcs in
@@ -57,21 +57,21 @@ counted_so net is walk along line =
 
 -- Counters that are 0 give the counts of no walk.
 pub counted_none : (net : NetValue) (counters : List ℕ) → All (λ n. n ≡ 0) counters → (line : ℕ)
-    → counted net counters line ≡ line_count (net ∷ []) [] line
+    → count_by_arcs net counters line ≡ line_count (net ∷ []) [] line
 counted_none net counters none line =
     ap (λ n. cond (is_code_line (net ∷ []) line) (Some n) None) (entering_none net line net.arcs counters none)
 
 -- The counters of no walk give the counts of no walk.
-pub counted_at_none : (net : NetValue) (line : ℕ) → counted net (map (λ arc. 0) net.arcs) line ≡ line_count (net ∷ []) [] line
+pub counted_at_none : (net : NetValue) (line : ℕ) → count_by_arcs net (map (λ arc. 0) net.arcs) line ≡ line_count (net ∷ []) [] line
 counted_at_none net line = counted_none net (map (λ arc. 0) net.arcs) (All-map (λ n. n ≡ 0) (λ arc. 0) net.arcs (λ k d h. refl)) line
 
 -- So do as many zeros as there are arcs.
-pub counted_at_zeros : (net : NetValue) (n line : ℕ) → counted net (replicate n 0) line ≡ line_count (net ∷ []) [] line
+pub counted_at_zeros : (net : NetValue) (n line : ℕ) → count_by_arcs net (replicate n 0) line ≡ line_count (net ∷ []) [] line
 counted_at_zeros net n line = counted_none net (replicate n 0) (All-replicate (λ n. n ≡ 0) n 0 refl) line
 
 -- After a walk run of the graph of a source the counts of lines by the counters of its arcs are those of the walk.
-pub run_counted : (most : ℕ) (form : Form) → loops_of form.body ≤ 100 → (input : List ℕ) (n : ℕ) (o : Outcome) → WalkRun most (graph_of form) input n o → (line : ℕ)
-    → counted (net_of (graph_of form)) (counters_of (net_of (graph_of form)).arcs o.walk) line
+pub run_counted : (most : ℕ) (form : Form) → loops_of form.body ≤ 100 → (input : List ℕ) (n : ℕ) (o : Trace) → WalkRun most (graph_of form) input n o → (line : ℕ)
+    → count_by_arcs (net_of (graph_of form)) (counters_of (net_of (graph_of form)).arcs o.walk) line
     ≡ line_count (net_of (graph_of form) ∷ []) (record { function = 0; blocks = o.walk } ∷ []) line
 run_counted most form few input n o run line =
     counted_so (net_of (graph_of form)) (graph_net form few) o.walk (walk_along most (graph_of form) (graph_exits form) input n o run) line

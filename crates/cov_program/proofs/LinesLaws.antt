@@ -5,7 +5,7 @@ use Rattle.std.proofs.lemmas.List.{take_all}
 use Rattle.std.proofs.lemmas.Bool.{ltb-true, ltb-false}
 use Rattle.std.specs.List.{position, position_or_len}
 use Rattle.cov_program.specs.Newline.{is_newline}
-use Rattle.cov_program.specs.CoverText.{lines_in, onto_first, annotated, annotated_lines, count_text}
+use Rattle.cov_program.specs.CoverText.{lines_in, onto_first, report_line, report_lines, count_text}
 
 -- the place of the first newline, or the length where there is none
 abbrev end_of : List ℕ → ℕ
@@ -94,9 +94,9 @@ length-lines_in [] = omega arith
 length-lines_in (b ∷ text) = length-step (b == 10) b (lines_in text) (length text) (length-lines_in text)
 
 -- the text of the lines is the same under counts that are the same at their numbers
-pub annotated_lines-same : (f g : ℕ → Option ℕ) (number : ℕ) (lines : List (List ℕ)) → ((k : ℕ) → number ≤ k → k < number + length lines → f k ≡ g k) → annotated_lines f number lines ≡ annotated_lines g number lines
-annotated_lines-same f g number [] same = refl
-annotated_lines-same f g number (line ∷ lines) same =
-    ap₂ (λ (count : Option ℕ) (rest : List ℕ). annotated (count_text count) number line ++ rest)
+pub report_lines-same : (f g : ℕ → Option ℕ) (number : ℕ) (lines : List (List ℕ)) → ((k : ℕ) → number ≤ k → k < number + length lines → f k ≡ g k) → report_lines f number lines ≡ report_lines g number lines
+report_lines-same f g number [] same = refl
+report_lines-same f g number (line ∷ lines) same =
+    ap₂ (λ (count : Option ℕ) (rest : List ℕ). report_line (count_text count) number line ++ rest)
     (same number (omega arith) (omega arith))
-    (annotated_lines-same f g (number + 1) lines (λ k from below. same k (omega arith) (omega arith)))
+    (report_lines-same f g (number + 1) lines (λ k from below. same k (omega arith) (omega arith)))

@@ -3,7 +3,7 @@
 use Rattle.std.proofs.Common.{◌≡◌, [], ◌∷◌, ◌++◌, refl, ap, codes, lit<, map, Some, None}
 use Rattle.std.proofs.lemmas.Fmt.{decimal_digit}
 use Rattle.cov_program.specs.FirstForm.{Form, Empty, Put, While, source_of}
-use Rattle.cov_program.specs.Ending.{Returned, OutputLimit, OutOfTurns}
+use Rattle.cov_program.specs.Outcome.{Returned, OutputLimit, OutOfTurns}
 use Rattle.cov_program.specs.Meaning.{meaning}
 use Rattle.cov_program.specs.Graph.{graph_of, Push, Drop, GetChar, PutChar, Equal, Jump, Back, Branch, Return}
 use Rattle.cov_program.specs.WalkRun.{WalkRun, stops, goes}
@@ -18,15 +18,15 @@ spelled_so : source_of worked ≡ codes "int main(void) {\nputchar('<');\nwhile 
 spelled_so = ap (λ digits. codes "int main(void) {\nputchar('<');\nwhile (getchar() == 'a') {\nputchar('b');\n}\nreturn " ++ (digits ++ codes ";\n}\n")) (decimal_digit 3 (lit< tt))
 
 -- on `aa` it puts `<bb` and returns 3
-meant : meaning 16 worked (97 ∷ 97 ∷ []) 10 ≡ record { output = 60 ∷ 98 ∷ 98 ∷ []; ending = Returned 3 }
+meant : meaning 16 worked (97 ∷ 97 ∷ []) 10 ≡ record { output = 60 ∷ 98 ∷ 98 ∷ []; outcome = Returned 3 }
 meant = refl
 
 -- with one turn it is out of turns after the second time round
-meant_one_turn : meaning 16 worked (97 ∷ 97 ∷ []) 1 ≡ record { output = 60 ∷ 98 ∷ 98 ∷ []; ending = OutOfTurns }
+meant_one_turn : meaning 16 worked (97 ∷ 97 ∷ []) 1 ≡ record { output = 60 ∷ 98 ∷ 98 ∷ []; outcome = OutOfTurns }
 meant_one_turn = refl
 
 -- with room for two bytes it stops at the `putchar` of line 4
-meant_full : meaning 2 worked (97 ∷ 97 ∷ []) 10 ≡ record { output = 60 ∷ 98 ∷ []; ending = OutputLimit 4 }
+meant_full : meaning 2 worked (97 ∷ 97 ∷ []) 10 ≡ record { output = 60 ∷ 98 ∷ []; outcome = OutputLimit 4 }
 meant_full = refl
 
 blocks : graph_of worked
@@ -38,15 +38,15 @@ blocks : graph_of worked
 blocks = refl
 
 walked : WalkRun 16 (graph_of worked) (97 ∷ 97 ∷ []) 10
-    (record { output = 60 ∷ 98 ∷ 98 ∷ []; ending = Returned 3; walk = 0 ∷ 2 ∷ 3 ∷ 4 ∷ 3 ∷ 4 ∷ 3 ∷ 5 ∷ 1 ∷ [] })
+    (record { output = 60 ∷ 98 ∷ 98 ∷ []; outcome = Returned 3; walk = 0 ∷ 2 ∷ 3 ∷ 4 ∷ 3 ∷ 4 ∷ 3 ∷ 5 ∷ 1 ∷ [] })
 walked = goes refl (goes refl (goes refl (goes refl (goes refl (goes refl (stops refl))))))
 
 walked_one_turn : WalkRun 16 (graph_of worked) (97 ∷ 97 ∷ []) 1
-    (record { output = 60 ∷ 98 ∷ 98 ∷ []; ending = OutOfTurns; walk = 0 ∷ 2 ∷ 3 ∷ 4 ∷ 3 ∷ 4 ∷ [] })
+    (record { output = 60 ∷ 98 ∷ 98 ∷ []; outcome = OutOfTurns; walk = 0 ∷ 2 ∷ 3 ∷ 4 ∷ 3 ∷ 4 ∷ [] })
 walked_one_turn = goes refl (goes refl (goes refl (goes refl (stops refl))))
 
 walked_full : WalkRun 2 (graph_of worked) (97 ∷ 97 ∷ []) 10
-    (record { output = 60 ∷ 98 ∷ []; ending = OutputLimit 4; walk = 0 ∷ 2 ∷ 3 ∷ 4 ∷ 3 ∷ 4 ∷ [] })
+    (record { output = 60 ∷ 98 ∷ []; outcome = OutputLimit 4; walk = 0 ∷ 2 ∷ 3 ∷ 4 ∷ 3 ∷ 4 ∷ [] })
 walked_full = goes refl (goes refl (goes refl (goes refl (stops refl))))
 
 -- A second source, with a loop in a loop and a loop that has nothing inside:
@@ -67,11 +67,11 @@ nested_blocks : graph_of nested
 nested_blocks = refl
 
 -- on `abbc` the inner loop runs twice and takes the `c`; then the input is at its end
-nested_meant : meaning 16 nested (97 ∷ 98 ∷ 98 ∷ 99 ∷ []) 10 ≡ record { output = 120 ∷ 121 ∷ []; ending = Returned 0 }
+nested_meant : meaning 16 nested (97 ∷ 98 ∷ 98 ∷ 99 ∷ []) 10 ≡ record { output = 120 ∷ 121 ∷ []; outcome = Returned 0 }
 nested_meant = refl
 
 nested_walked : WalkRun 16 (graph_of nested) (97 ∷ 98 ∷ 98 ∷ 99 ∷ []) 10
-    (record { output = 120 ∷ 121 ∷ []; ending = Returned 0; walk = 0 ∷ 2 ∷ 3 ∷ 4 ∷ 5 ∷ 6 ∷ 5 ∷ 6 ∷ 5 ∷ 7 ∷ 3 ∷ 8 ∷ 1 ∷ [] })
+    (record { output = 120 ∷ 121 ∷ []; outcome = Returned 0; walk = 0 ∷ 2 ∷ 3 ∷ 4 ∷ 5 ∷ 6 ∷ 5 ∷ 6 ∷ 5 ∷ 7 ∷ 3 ∷ 8 ∷ 1 ∷ [] })
 nested_walked = goes refl (goes refl (goes refl (goes refl (goes refl (goes refl (goes refl (goes refl (goes refl (goes refl (stops refl))))))))))
 
 -- the counts of the worked source's lines after its run on `aa`

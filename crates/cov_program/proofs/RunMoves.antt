@@ -9,9 +9,9 @@ use Rattle.std.proofs.lemmas.List.Folds.{list_any-append}
 use Rattle.cov_base.specs.Net.{joins, has_arc}
 use Rattle.cov_base.specs.Walks.{moves_from, GoesAlong}
 use Rattle.cov_base.specs.declared.net.FlowArc.{FlowArc}
-use Rattle.cov_program.specs.Ending.{OutputLimit}
+use Rattle.cov_program.specs.Outcome.{OutputLimit}
 use Rattle.cov_program.specs.Graph.{Op, Push, Drop, GetChar, PutChar, Equal, Exit, Jump, Back, Branch, Return, Block}
-use Rattle.cov_program.specs.WalkRun.{over, Moment, Outcome, Step, Goes, Over, Stuck, byte_of, truth, got, do_ops, goes_to, goes_back, leaves, step_in, step, Runs, stops, goes, start, WalkRun}
+use Rattle.cov_program.specs.WalkRun.{over, Moment, Trace, Step, Goes, Over, Stuck, byte_of, truth, got, do_ops, goes_to, goes_back, leaves, step_in, step, Runs, stops, goes, start, WalkRun}
 use Rattle.cov_program.specs.Nets.{real_arc, arcs_by, arcs_from, net_of}
 use Rattle.cov_program.specs.Exits.{IsExit, AreExits}
 use Rattle.cov_program.proofs.ArcPlaces.{exit_at}
@@ -165,14 +165,14 @@ step_along most graph are m here = go (slice_get graph (m.block - 2)) refl
         (leaves_along arcs (2 + length graph) m.block m.walk here b.exit is has)
 
 -- Where a run of a graph goes on from the end of a walk along the arcs of its net, so does its whole walk.
-pub moves_are_arcs : (most : ℕ) (graph : List Block) → AreExits 2 (2 + length graph) graph → (m : Moment) (o : Outcome) → Runs most graph m o
+pub moves_are_arcs : (most : ℕ) (graph : List Block) → AreExits 2 (2 + length graph) graph → (m : Moment) (o : Trace) → Runs most graph m o
     → IsAt (net_of graph).arcs m.block m.walk → GoesAlong (net_of graph).arcs o.walk
 moves_are_arcs most graph are m o (stops e) here = subst (StaysAlong (net_of graph).arcs) e (step_along most graph are m here)
 moves_are_arcs most graph are m o (goes {next = next} e run) here =
     moves_are_arcs most graph are next o run (subst (StaysAlong (net_of graph).arcs) e (step_along most graph are m here))
 
 -- Each move of a walk run goes along an arc of the graph's net.
-pub walk_along : (most : ℕ) (graph : List Block) → AreExits 2 (2 + length graph) graph → (input : List ℕ) (n : ℕ) (o : Outcome) → WalkRun most graph input n o
+pub walk_along : (most : ℕ) (graph : List Block) → AreExits 2 (2 + length graph) graph → (input : List ℕ) (n : ℕ) (o : Trace) → WalkRun most graph input n o
     → GoesAlong (net_of graph).arcs o.walk
 walk_along most graph are input n o run =
     let arcs = (net_of graph).arcs in

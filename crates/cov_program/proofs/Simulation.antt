@@ -4,10 +4,10 @@ use Rattle.std.specs.Prelude.{nat_lt, slice_get, if◌then◌else◌, ◌-◌, �
 use Rattle.std.specs.Ordering.{int_eq}
 use Rattle.std.proofs.lemmas.Bool.Decides.{Decides-int_eq, Decides-eqb, Decides-like, same_from_decides}
 use Rattle.cov_program.specs.FirstForm.{Body, Empty, Put, While, HasChars, loops_of, lines_of}
-use Rattle.cov_program.specs.Ending.{OutputLimit}
+use Rattle.cov_program.specs.Outcome.{OutputLimit}
 use Rattle.cov_program.specs.Meaning.{World, Flow, Falls, Stops, Later, then_on, test, again, does, later_at}
 use Rattle.cov_program.specs.Graph.{Back, Branch, Block, Rest, test_ops, ends_by, blocks_of, rest_from}
-use Rattle.cov_program.specs.WalkRun.{Moment, Outcome, Step, Goes, Over, Stuck, truth, over, got, do_ops, goes_back, leaves, step_in, step, Runs, stops, goes}
+use Rattle.cov_program.specs.WalkRun.{Moment, Trace, Step, Goes, Over, Stuck, truth, over, got, do_ops, goes_back, leaves, step_in, step, Runs, stops, goes}
 use Rattle.cov_program.proofs.Placed.{At, at_front, at_back}
 use Rattle.cov_program.proofs.Exits.{rest_length}
 
@@ -19,19 +19,19 @@ moment block w walk = record { block = block; input = w.input; output = w.output
 abbrev pub inside : ℕ → Rest → Moment → Step
 inside most r m = do_ops most r.current.ops [] m (leaves r.current.exit)
 
--- the run has this outcome from after this step on
-abbrev pub EndsSo : ℕ → List Block → Step → Outcome → Type 0
+-- the run has this trace from after this step on
+abbrev pub EndsSo : ℕ → List Block → Step → Trace → Type 0
 EndsSo most graph (Goes next) o = Runs most graph next o
 EndsSo most graph (Over p) o = p ≡ o
 EndsSo most graph Stuck o = ⊥
 
 -- Where a statement falls off its end, the run comes from this step to what is left behind the statement, with the same world,
--- at most n turns and some walk; where the statement stops, the run has its output and its ending.
+-- at most n turns and some walk; where the statement stops, the run has its output and its outcome.
 abbrev pub Follows : ℕ → List Block → ℕ → Step → Rest → Flow → Type 0
 Follows most graph n s after (Falls w) =
-    (block : ℕ) × (walk : List ℕ) × ((o : Outcome) → EndsSo most graph (inside most after (moment block w walk)) o → EndsSo most graph s o) × (w.turns ≤ n)
-Follows most graph n s after (Stops output ending) =
-    (walk : List ℕ) × EndsSo most graph s (record { output = output; ending = ending; walk = walk })
+    (block : ℕ) × (walk : List ℕ) × ((o : Trace) → EndsSo most graph (inside most after (moment block w walk)) o → EndsSo most graph s o) × (w.turns ≤ n)
+Follows most graph n s after (Stops output outcome) =
+    (walk : List ℕ) × EndsSo most graph s (record { output = output; outcome = outcome; walk = walk })
 
 -- from this place in a block, with at most n turns left, the run follows a statement
 abbrev pub FollowsInside : ℕ → List Block → ℕ → Rest → Rest → (World → Flow) → Type 0
@@ -43,7 +43,7 @@ abbrev pub FollowsHead : ℕ → List Block → ℕ → ℕ → Rest → (World 
 FollowsHead most graph n head after go = (w : World) (walk : List ℕ) → w.turns < n → Follows most graph n (Goes (moment head w walk)) after (go w)
 
 -- a run from the start of a block, from what its step does
-pub runs_from : (most : ℕ) (graph : List Block) (m : Moment) (s : Step) (o : Outcome) → step most graph m ≡ s → EndsSo most graph s o → Runs most graph m o
+pub runs_from : (most : ℕ) (graph : List Block) (m : Moment) (s : Step) (o : Trace) → step most graph m ≡ s → EndsSo most graph s o → Runs most graph m o
 runs_from most graph m (Goes next) o e h = goes e h
 runs_from most graph m (Over p) o e h = stops (e ∙ ap Over h)
 runs_from most graph m Stuck o e h = absurd h
@@ -76,13 +76,13 @@ pub record Sound (most : ℕ) (graph : List Block) (n : ℕ) (later : Later) : T
 
 module _ (most : ℕ) (graph : List Block) (n : ℕ) where
   -- a step that leads to another follows what that one follows
-  leads_to : (s t : Step) (after : Rest) (f : Flow) → ((o : Outcome) → EndsSo most graph t o → EndsSo most graph s o)
+  leads_to : (s t : Step) (after : Rest) (f : Flow) → ((o : Trace) → EndsSo most graph t o → EndsSo most graph s o)
       → Follows most graph n t after f → Follows most graph n s after f
   leads_to s t after (Falls w) h k = (k.0, k.1, λ o end. h o (k.2 o end), k.3)
-  leads_to s t after (Stops output ending) h k = (k.0, h _ k.1)
+  leads_to s t after (Stops output outcome) h k = (k.0, h _ k.1)
 
   -- the start of a block leads to what stands in it
-  enters : (block : ℕ) (r : Rest) (w : World) (walk : List ℕ) (o : Outcome) → slice_get graph (block - 2) ≡ Some r.current
+  enters : (block : ℕ) (r : Rest) (w : World) (walk : List ℕ) (o : Trace) → slice_get graph (block - 2) ≡ Some r.current
       → EndsSo most graph (inside most r (moment block w walk)) o → EndsSo most graph (Goes (moment block w walk)) o
   enters block r w walk o e h = let m = moment block w walk in runs_from most graph m (inside most r m) o (ap (λ b. step_in most b m) e) h
 
@@ -90,7 +90,7 @@ module _ (most : ℕ) (graph : List Block) (n : ℕ) where
   flow_then : (s : Step) (between after : Rest) (f : Flow) (go : World → Flow) → Follows most graph n s between f
       → FollowsInside most graph n between after go → Follows most graph n s after (then_on f go)
   flow_then s between after (Falls w) go h k = leads_to s (inside most between (moment h.0 w h.1)) after (go w) h.2 (k w h.0 h.1 h.3)
-  flow_then s between after (Stops output ending) go h k = h
+  flow_then s between after (Stops output outcome) go h k = h
 
   -- `putchar` of a character, which is its own byte, where there is room or not
   put_follows : (r after : Rest) (room : Bool) (c byte line block : ℕ) (w : World) (walk : List ℕ) (go : World → Flow) → byte ≡ c
@@ -139,7 +139,7 @@ module _ (most : ℕ) (graph : List Block) (n : ℕ) where
   head_follows c line head behind body after go w walk loop h le =
       let m = moment head w walk in
       let tested = got w.input m (λ x m. leaves (Branch (head + 1) behind) (truth (int_eq x (pos c)) ∷ []) m) in
-      let comes = λ (o : Outcome). runs_from most graph m tested o (ap (λ b. step_in most b m) loop.tests) in
+      let comes = λ (o : Trace). runs_from most graph m tested o (ap (λ b. step_in most b m) loop.tests) in
       leads_to (Goes m) tested after (test c w.input w go) comes (test_follows c line head behind body after go w.input w walk loop h le)
 
   -- the inside of a loop and then the loop from its start
@@ -184,7 +184,7 @@ body_follows most graph n later sound (While c inner more) line next after chars
 -- what is followed with at most n turns left is followed with more
 more_turns : (most : ℕ) (graph : List Block) (n more : ℕ) (s : Step) (after : Rest) (f : Flow) → n ≤ more → Follows most graph n s after f → Follows most graph more s after f
 more_turns most graph n more s after (Falls w) le k = (k.0, k.1, k.2, omega (arith, k.3))
-more_turns most graph n more s after (Stops output ending) le k = k
+more_turns most graph n more s after (Stops output outcome) le k = k
 
 -- loops from their start with at most n turns left, where those with fewer are followed
 one_more : (most : ℕ) (graph : List Block) (n : ℕ) → Sound most graph n (later_at most n) → (c line head behind : ℕ) (inner : Body) (after : Rest)

@@ -13,7 +13,8 @@ use Rattle.cov_program.specs.FirstForm.{Form, loops_of}
 use Rattle.cov_program.specs.Graph.{graph_of}
 use Rattle.cov_program.specs.GraphView.{graph_seen, block_of}
 use Rattle.cov_program.specs.Nets.{net_of}
-use Rattle.cov_program.proofs.Exits.{graph_length}
+use Rattle.cov_program.specs.Exits.{IsRunnable}
+use Rattle.cov_program.proofs.Exits.{graph_length, graph_exits}
 use Rattle.cov_program.proofs.GraphNet.{graph_net}
 
 -- a net of these parts
@@ -67,3 +68,9 @@ pub not_refused : (net : NetValue) (result : Result NetValue (Refusal NetFault))
 not_refused net result refusal fault is made e f =
     let h : Makes net (Err (Refused fault)) = subst (Makes net) (e ∙ ap Err f) made in
     no_fault-from_IsNet net fault is h
+
+-- the graph of a form can be run
+pub runnable_form : (form : Form) → loops_of form.body ≤ 100 → IsRunnable (graph_of form)
+runnable_form form few =
+    let n = graph_length form in
+    record { some = omega arith; few = omega arith; exits = graph_exits form }

@@ -5,7 +5,7 @@ use Rattle.std.specs.List.{All, count_by, slice_get, slice_index}
 use Rattle.std.proofs.lemmas.Option.{slice_get_read}
 use Rattle.cov_base.specs.Walks.{moves, is_along}
 use Rattle.cov_program.specs.declared.graph.Block.{Block}
-use Rattle.cov_program.specs.declared.ending.Ending.{Ending}
+use Rattle.cov_program.specs.declared.outcome.Outcome.{Outcome}
 use Rattle.cov_program.specs.GraphView.{exit_of, block_of, graph_seen}
 use Rattle.cov_program.specs.Nets.{arcs_by, firsts_from}
 use Rattle.cov_program.specs.Exits.{AreExits}
@@ -67,9 +67,9 @@ module _ (blocks : List Block) (firsts : List ℕ) (arcs turns : ℕ) (ready : C
   has_room p w = room (graph_seen blocks) input turns p few w
 
   -- what the walker made of a place keeps what is known
-  pub kept : (p q : Position) (k : ℕ) (b : Block) (ending : Option Ending) → k ≡ p.block - 2 → b ≡ get_or blocks k b → IsWalking (graph_seen blocks) input turns p
-      → advanced b (slice_index firsts k) p ≡ advance ending q → Keeps (graph_seen blocks) input turns p (advance ending q)
-  kept p q k b ending e is w made =
+  pub kept : (p q : Position) (k : ℕ) (b : Block) (outcome : Option Outcome) → k ≡ p.block - 2 → b ≡ get_or blocks k b → IsWalking (graph_seen blocks) input turns p
+      → advanced b (slice_index firsts k) p ≡ advance outcome q → Keeps (graph_seen blocks) input turns p (advance outcome q)
+  kept p q k b outcome e is w made =
       let at = subst (λ n. slice_get blocks n ≡ Some b) e (read_block p k b e is w) in
       let exits = subst (λ n. AreExits 2 (2 + n) (graph_seen blocks)) (sym seen_length) ready.exits in
       let same : slice_index (firsts_from 1 (graph_seen blocks)) (p.block - 2) ≡ slice_index firsts k =

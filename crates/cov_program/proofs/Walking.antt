@@ -9,14 +9,14 @@ use Rattle.cov_base.specs.declared.net.FlowArc.{FlowArc}
 use Rattle.cov_program.specs.declared.graph.Exit.{Exit}
 use Rattle.cov_program.specs.declared.graph.Exit.TheVariants as exit
 use Rattle.cov_program.specs.declared.graph.Block.{Block}
-use Rattle.cov_program.specs.declared.ending.Ending.{Ending}
-use Rattle.cov_program.specs.declared.ending.Ending.TheVariants as ending
-use Rattle.cov_program.specs.EndingView.{ending_of}
+use Rattle.cov_program.specs.declared.outcome.Outcome.{Outcome}
+use Rattle.cov_program.specs.declared.outcome.Outcome.TheVariants as outcome
+use Rattle.cov_program.specs.OutcomeView.{outcome_of}
 use Rattle.cov_program.specs.Graph.{Block as BlockValue}
 use Rattle.cov_program.specs.GraphView.{exit_of, block_of, graph_seen}
 use Rattle.cov_program.specs.Nets.{net_of, real_arc, arcs_by, arcs_from, firsts_from}
-use Rattle.cov_program.specs.WalkRun.{Outcome, Runs, stops, goes, WalkRun, step, step_in}
-use Rattle.cov_program.specs.CoverText.{output_limit}
+use Rattle.cov_program.specs.WalkRun.{Trace, Runs, stops, goes, WalkRun, step, step_in}
+use Rattle.cov_base.specs.Limits.{output_limit}
 use Rattle.cov_program.specs.Exits.{IsExit, AreExits}
 use Rattle.cov_program.specs.Walked.{Walked, counters_of}
 use Rattle.cov_program.specs.Advance.{Position, Advance, Onward, Ended, Putted, put_each, passed, counted_at, goes_back, tested, leaves_by, unless_full, advanced}
@@ -34,7 +34,7 @@ pub record IsWalking (graph : List BlockValue) (input : List ℕ) (turns : ℕ) 
   pub before : List ℕ
   pub inside : 2 ≤ p.block
   pub within : p.block < 2 + length graph
-  pub runs : (o : Outcome) → Runs output_limit graph (moment_at p (before ++ p.block ∷ [])) o → WalkRun output_limit graph input turns o
+  pub runs : (o : Trace) → Runs output_limit graph (moment_at p (before ++ p.block ∷ [])) o → WalkRun output_limit graph input turns o
   pub counted : p.counters ≡ counters_of (arcs_of graph) (before ++ p.block ∷ [])
   pub short : length before + (p.turns * length graph + (2 + length graph)) ≤ turns * length graph + (length graph + 1) + p.block
 
@@ -48,10 +48,10 @@ pub record MovesAlong (graph : List BlockValue) (p q : Position) : Type 0 where
   pub less : q.turns * length graph + p.block < p.turns * length graph + q.block
 
 -- the run ends, along just one of the arcs where it returns
-abbrev pub EndsAlong : List BlockValue → Position → Ending → Position → Type 0
-EndsAlong graph p (ending.Returned status) q = (arc : ℕ) × OneJoins p.block 1 arc (arcs_of graph) × (q.counters ≡ counted_at p.counters arc)
-EndsAlong graph p (ending.OutputLimit line) q = q.counters ≡ p.counters
-EndsAlong graph p ending.OutOfTurns q = q.counters ≡ p.counters
+abbrev pub EndsAlong : List BlockValue → Position → Outcome → Position → Type 0
+EndsAlong graph p (outcome.Returned status) q = (arc : ℕ) × OneJoins p.block 1 arc (arcs_of graph) × (q.counters ≡ counted_at p.counters arc)
+EndsAlong graph p (outcome.OutputLimit line) q = q.counters ≡ p.counters
+EndsAlong graph p outcome.OutOfTurns q = q.counters ≡ p.counters
 
 -- what is made of a place is a move along an arc, or an end
 abbrev pub IsAlong : List BlockValue → Position → Advance → Type 0
@@ -61,7 +61,7 @@ IsAlong graph p (Ended e q) = EndsAlong graph p e q
 -- the walk goes on, with less that remains, or the graph is walked
 abbrev pub Keeps : List BlockValue → List ℕ → ℕ → Position → Advance → Type 0
 Keeps graph input turns p (Onward q) = IsWalking graph input turns q × (q.turns * length graph + p.block < p.turns * length graph + q.block)
-Keeps graph input turns p (Ended e q) = Walked graph input turns q.output (ending_of e) q.counters × All (λ n. n < 2 ^ 50) q.counters
+Keeps graph input turns p (Ended e q) = Walked graph input turns q.output (outcome_of e) q.counters × All (λ n. n < 2 ^ 50) q.counters
 
 -- a run that goes on is under way
 goes_on : (graph : List BlockValue) (input : List ℕ) (turns : ℕ) (p q : Position) (w : IsWalking graph input turns p)
@@ -90,11 +90,11 @@ room graph input turns p few w =
     below graph w.before p.block p.counters (omega (arith, short, within, few)) w.counted
 
 -- a run that ends has walked the graph
-ends : (graph : List BlockValue) (input : List ℕ) (turns : ℕ) (p : Position) (e : Ending) (q : Position) → turns * length graph + (length graph + 2) < 2 ^ 50
+ends : (graph : List BlockValue) (input : List ℕ) (turns : ℕ) (p : Position) (e : Outcome) (q : Position) → turns * length graph + (length graph + 2) < 2 ^ 50
     → (w : IsWalking graph input turns p)
     → step output_limit graph (moment_at p (w.before ++ p.block ∷ [])) ≡ step_of (Ended e q) (w.before ++ p.block ∷ [])
-    → EndsAlong graph p e q → Walked graph input turns q.output (ending_of e) q.counters × All (λ n. n < 2 ^ 50) q.counters
-ends graph input turns p (ending.Returned status) q few w is along =
+    → EndsAlong graph p e q → Walked graph input turns q.output (outcome_of e) q.counters × All (λ n. n < 2 ^ 50) q.counters
+ends graph input turns p (outcome.Returned status) q few w is along =
     let walk = w.before ++ p.block ∷ [] in
     let counted : q.counters ≡ counters_of (arcs_of graph) (walk ++ 1 ∷ []) =
     along.2 ∙ (ap (λ cs. counted_at cs along.0) w.counted ∙ sym (counters_push (arcs_of graph) w.before p.block 1 along.0 along.1)) in
@@ -102,11 +102,11 @@ ends graph input turns p (ending.Returned status) q few w is along =
       record { walk = walk ++ 1 ∷ []; run = w.runs _ (stops is); counted = counted },
       below graph walk 1 q.counters (omega (arith, short, within, more, few)) counted,
     )
-ends graph input turns p (ending.OutputLimit line) q few w is along = (
+ends graph input turns p (outcome.OutputLimit line) q few w is along = (
   record { walk = w.before ++ p.block ∷ []; run = w.runs _ (stops is); counted = along ∙ w.counted },
   subst (λ ns. All (λ n. n < 2 ^ 50) ns) (sym along) (room graph input turns p few w),
 )
-ends graph input turns p ending.OutOfTurns q few w is along = (
+ends graph input turns p outcome.OutOfTurns q few w is along = (
   record { walk = w.before ++ p.block ∷ []; run = w.runs _ (stops is); counted = along ∙ w.counted },
   subst (λ ns. All (λ n. n < 2 ^ 50) ns) (sym along) (room graph input turns p few w),
 )
@@ -152,7 +152,7 @@ back_along : (graph : List BlockValue) (p r : Position) (first target : ℕ) →
     → p.block < 2 + length graph → 2 ≤ target → target < 2 + length graph → OneJoins p.block target first (arcs_of graph)
     → IsAlong graph p (goes_back first target r)
 back_along graph p r first target same turns below inside within one =
-    cond_both (r.turns == 0) (Ended ending.OutOfTurns r) (Onward (passed first target (record r { turns = r.turns - 1 }))) (IsAlong graph p)
+    cond_both (r.turns == 0) (Ended outcome.OutOfTurns r) (Onward (passed first target (record r { turns = r.turns - 1 }))) (IsAlong graph p)
     (λ e. same)
     (λ e.
     let less = one_less r.turns (length graph) (eqb-false r.turns 0 e) in

@@ -8,7 +8,7 @@ use Rattle.cov_outside.specs.declared.faults.SinkFault.{SinkFault}
 use Rattle.cov_outside.specs.declared.faults.SinkFault.TheVariants as sink_fault
 use Rattle.cov_program.specs.declared.answers.End.{End}
 use Rattle.cov_program.specs.declared.answers.End.TheVariants as answer
-use Rattle.cov_program.specs.Answers.{IsFront, line_of, words_in, name_in}
+use Rattle.cov_program.specs.Answers.{IsTold, line_of, words_of, name_of}
 
 -- where the first piece was cut, a front of both pieces was written
 pub cut_first : (before after : Option (List ℕ)) (fault : SinkFault) (xs ys : List ℕ) → WritesAll before after (Err fault) xs → WritesAll before after (Err fault) (xs ++ ys)
@@ -36,24 +36,26 @@ both (Some before) (Some mid) after done (Err fault) xs ys h k =
       k.2 ∙ ap (λ front. Some (front ++ take k.0 ys)) e ∙ ap Some (append_assoc before xs (take k.0 ys) ∙ ap (λ part. before ++ part) (sym (take-append-add xs ys k.0))),
     )
 
--- what was written of a text is a front of it
-pub front_of : (told after : Option (List ℕ)) (result : Result (Unit {0}) SinkFault) (text : List ℕ) → WritesAll told after result text → IfSome told (λ before. IsFront text before after)
-front_of None after result text h = tt
-front_of (Some before) after (Ok done) text h =
-    record { count = length text; within = omega arith; written = h ∙ ap (λ t. Some (before ++ t)) (sym (take-length text)) }
-front_of (Some before) after (Err fault) text h = record { count = h.0; within = h.1; written = h.2 }
-
--- without a fault and a want of memory the whole text was written
-pub whole_of : (told after : Option (List ℕ)) (result : Result (Unit {0}) SinkFault) (text : List ℕ) (Fault Want : Type 0)
+-- what was written of a text is a front of it, and without a fault and a want of memory the whole text
+pub told_of : (told after : Option (List ℕ)) (result : Result (Unit {0}) SinkFault) (text : List ℕ) (Fault Want : Type 0)
     → (result ≡ Err sink_fault.Failed → Fault) → (result ≡ Err sink_fault.NoMemory → Want) → WritesAll told after result text
-    → IfSome told (λ before. (Fault → ⊥) → (Want → ⊥) → after ≡ Some (before ++ text))
-whole_of None after result text Fault Want fault want h = tt
-whole_of (Some before) after (Ok done) text Fault Want fault want h = λ no_fault no_want. h
-whole_of (Some before) after (Err sink_fault.Failed) text Fault Want fault want h = λ no_fault no_want. absurd (no_fault (fault refl))
-whole_of (Some before) after (Err sink_fault.NoMemory) text Fault Want fault want h = λ no_fault no_want. absurd (no_want (want refl))
+    → IfSome told (λ before. IsTold text before after Fault Want)
+told_of None after result text Fault Want fault want h = tt
+told_of (Some before) after (Ok done) text Fault Want fault want h = record {
+  front = record { count = length text; within = omega arith; written = h ∙ ap (λ t. Some (before ++ t)) (sym (take-length text)) };
+  whole = λ no_fault no_want. h;
+}
+told_of (Some before) after (Err sink_fault.Failed) text Fault Want fault want h = record {
+  front = record { count = h.0; within = h.1; written = h.2 };
+  whole = λ no_fault no_want. absurd (no_fault (fault refl));
+}
+told_of (Some before) after (Err sink_fault.NoMemory) text Fault Want fault want h = record {
+  front = record { count = h.0; within = h.1; written = h.2 };
+  whole = λ no_fault no_want. absurd (no_want (want refl));
+}
 
 -- the line of an answer other than Done is its words, the name in it and a newline
-pub line_parts : (end : End) → (end ≡ answer.Done → ⊥) → line_of end ≡ words_in end ++ (name_in end ++ 10 ∷ [])
+pub line_parts : (end : End) → (end ≡ answer.Done → ⊥) → line_of end ≡ words_of end ++ (name_of end ++ 10 ∷ [])
 unfolding line_of
 line_parts answer.Done h = absurd (h refl)
 line_parts (answer.Usage fault) h = refl

@@ -4,9 +4,9 @@ use Rattle.cov_program.specs.declared.graph.Put.{Put}
 use Rattle.cov_program.specs.declared.graph.Exit.{Exit}
 use Rattle.cov_program.specs.declared.graph.Exit.TheVariants as exit
 use Rattle.cov_program.specs.declared.graph.Block.{Block}
-use Rattle.cov_program.specs.declared.ending.Ending.{Ending}
-use Rattle.cov_program.specs.declared.ending.Ending.TheVariants as ending
-use Rattle.cov_program.specs.CoverText.{output_limit}
+use Rattle.cov_program.specs.declared.outcome.Outcome.{Outcome}
+use Rattle.cov_program.specs.declared.outcome.Outcome.TheVariants as outcome
+use Rattle.cov_base.specs.Limits.{output_limit}
 
 -- Where a run stands at the start of a block: the input that is left, the turns that are left, the output so far, and how often
 -- each arc was passed.
@@ -20,12 +20,12 @@ pub record Position : Type 0 where
 -- A block is left for the place at the start of another, or the run ends.
 pub data Advance : Type 0 where
   Onward : Position → Advance
-  Ended : Ending → Position → Advance
+  Ended : Outcome → Position → Advance
 
--- the run ends if there is an ending
-abbrev pub advance : Option Ending → Position → Advance
+-- the run ends if there is an outcome
+abbrev pub advance : Option Outcome → Position → Advance
 advance None p = Onward p
-advance (Some ending) p = Ended ending p
+advance (Some outcome) p = Ended outcome p
 
 -- the counter at an index is one more
 abbrev pub counted_at : List ℕ → ℕ → List ℕ
@@ -50,7 +50,7 @@ put_each most (p ∷ ps) output =
 
 -- a way back takes a turn
 abbrev pub goes_back : ℕ → ℕ → Position → Advance
-goes_back arc target p = if p.turns == 0 then Ended ending.OutOfTurns p else Onward (passed arc target (record p { turns = p.turns - 1 }))
+goes_back arc target p = if p.turns == 0 then Ended outcome.OutOfTurns p else Onward (passed arc target (record p { turns = p.turns - 1 }))
 
 -- a test takes the next byte of the input, where one is left
 abbrev pub tested : List ℕ → ℕ → ℕ → ℕ → ℕ → Position → Position
@@ -63,12 +63,12 @@ abbrev pub leaves_by : Exit → ℕ → Position → Advance
 leaves_by (exit.Jump target) arc p = Onward (passed arc target p)
 leaves_by (exit.Back target) arc p = goes_back arc target p
 leaves_by (exit.Test byte line inside behind) arc p = Onward (tested p.input byte arc inside behind p)
-leaves_by (exit.Return status) arc p = Ended (ending.Returned (status % 256)) (record p { counters = counted_at p.counters arc })
+leaves_by (exit.Return status) arc p = Ended (outcome.Returned (status % 256)) (record p { counters = counted_at p.counters arc })
 
 -- a block is left by its exit unless the output was full
 abbrev pub unless_full : Option ℕ → Exit → ℕ → Position → Advance
 unless_full None exit arc p = leaves_by exit arc p
-unless_full (Some line) exit arc p = Ended (ending.OutputLimit line) p
+unless_full (Some line) exit arc p = Ended (outcome.OutputLimit line) p
 
 -- one block of the walk, where the first arc that leaves it has this index
 abbrev pub advanced : Block → ℕ → Position → Advance

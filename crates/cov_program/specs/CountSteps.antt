@@ -14,34 +14,34 @@ abbrev pub count_or_zero : List (Option ℕ) → ℕ → ℕ
 count_or_zero counts line = unwrap_or (count_at counts line) 0
 
 -- the counts with those of the lines begun at 0
-abbrev pub begun : List ℕ → List (Option ℕ) → List (Option ℕ)
-begun [] counts = counts
-begun (line ∷ lines) counts = begun lines (slice_set counts line (Some 0))
+abbrev pub begin_lines : List ℕ → List (Option ℕ) → List (Option ℕ)
+begin_lines [] counts = counts
+begin_lines (line ∷ lines) counts = begin_lines lines (slice_set counts line (Some 0))
 
 -- the counts with those of the lines of all lists begun at 0
-abbrev pub all_begun : List (List ℕ) → List (Option ℕ) → List (Option ℕ)
-all_begun [] counts = counts
-all_begun (lines ∷ lists) counts = all_begun lists (begun lines counts)
+abbrev pub begin_all : List (List ℕ) → List (Option ℕ) → List (Option ℕ)
+begin_all [] counts = counts
+begin_all (lines ∷ lists) counts = begin_all lists (begin_lines lines counts)
 
 -- the counts with a number added to that of the line
-abbrev pub added_at : ℕ → ℕ → List (Option ℕ) → List (Option ℕ)
-added_at line n counts = slice_set counts line (Some (count_or_zero counts line + n))
+abbrev pub add_at : ℕ → ℕ → List (Option ℕ) → List (Option ℕ)
+add_at line n counts = slice_set counts line (Some (count_or_zero counts line + n))
 
 -- the counts with a number added to those of the lines, but for the lines that another list holds
-abbrev pub added : ℕ → List ℕ → List ℕ → List (Option ℕ) → List (Option ℕ)
-added n others [] counts = counts
-added n others (line ∷ lines) counts = added n others lines (if holds others line then counts else added_at line n counts)
+abbrev pub add_to_lines : ℕ → List ℕ → List ℕ → List (Option ℕ) → List (Option ℕ)
+add_to_lines n others [] counts = counts
+add_to_lines n others (line ∷ lines) counts = add_to_lines n others lines (if holds others line then counts else add_at line n counts)
 
 -- the lines of a block
 abbrev pub lines_at : NetValue → ℕ → List ℕ
 lines_at net block = slice_index_or net.lines block []
 
 -- the counts with the counter of an arc added to those of the lines that it comes to
-abbrev pub arc_added : NetValue → FlowArc → ℕ → List (Option ℕ) → List (Option ℕ)
-arc_added net arc n counts = added n (lines_at net arc.from) (lines_at net arc.to) counts
+abbrev pub add_arc : NetValue → FlowArc → ℕ → List (Option ℕ) → List (Option ℕ)
+add_arc net arc n counts = add_to_lines n (lines_at net arc.from) (lines_at net arc.to) counts
 
 -- the counts with the counters of all arcs added
-abbrev pub all_added : NetValue → List FlowArc → List ℕ → List (Option ℕ) → List (Option ℕ)
-all_added net [] counters counts = counts
-all_added net (arc ∷ arcs) [] counts = counts
-all_added net (arc ∷ arcs) (n ∷ counters) counts = all_added net arcs counters (arc_added net arc n counts)
+abbrev pub add_arcs : NetValue → List FlowArc → List ℕ → List (Option ℕ) → List (Option ℕ)
+add_arcs net [] counters counts = counts
+add_arcs net (arc ∷ arcs) [] counts = counts
+add_arcs net (arc ∷ arcs) (n ∷ counters) counts = add_arcs net arcs counters (add_arc net arc n counts)

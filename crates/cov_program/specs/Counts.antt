@@ -17,5 +17,5 @@ entering net line (arc ∷ arcs) (counter ∷ counters) =
     (if not (is_of_line net line arc.from) && is_of_line net line arc.to then counter else 0) + entering net line arcs counters
 
 -- a line's count by the counters of the net's arcs: none where no block has the line
-abbrev pub counted : NetValue → List ℕ → ℕ → Option ℕ
-counted net counters line = if is_code_line (net ∷ []) line then Some (entering net line net.arcs counters) else None
+abbrev pub count_by_arcs : NetValue → List ℕ → ℕ → Option ℕ
+count_by_arcs net counters line = if is_code_line (net ∷ []) line then Some (entering net line net.arcs counters) else None

@@ -1,5 +1,5 @@
 pub mod FirstForm
-pub mod Ending
+pub mod Outcome
 pub mod Meaning
 pub mod Graph
 pub mod WalkRun
@@ -7,12 +7,15 @@ pub mod FormView
 pub mod GraphView
 pub mod Nets
 pub mod CoverText
-pub mod EndingView
+pub mod OutcomeView
 pub mod Exits
 pub mod Walked
 pub mod Counts
 pub mod Words
 pub mod Answers
+pub mod Cover
+pub mod Commands
+pub mod Performs
 pub mod Steps
 pub mod Plan
 pub mod Newline

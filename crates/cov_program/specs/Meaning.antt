@@ -2,7 +2,7 @@
 -- 6.5.9, 6.8.5.1, 6.8.6.4, 7.21.7.6, 7.21.7.8).
 use Rattle.std.specs.Prelude.{ℕ, zero, suc, ◌+◌, ◌==◌, nat_lt, List, [], ◌∷◌, ◌++◌, length, if◌then◌else◌}
 use Rattle.cov_program.specs.FirstForm.{Body, Empty, Put, While, Form, lines_of}
-use Rattle.cov_program.specs.Ending.{Ending, Returned, OutputLimit, OutOfTurns}
+use Rattle.cov_program.specs.Outcome.{Outcome, Returned, OutputLimit, OutOfTurns}
 
 -- The outside of a running program: the input that is left, the output so far, the turns that are left.
 pub record World : Type 0 where
@@ -10,15 +10,15 @@ pub record World : Type 0 where
   pub output : List ℕ
   pub turns : ℕ
 
--- A statement is left at its end, or the run stops in it with an output and an ending.
+-- A statement is left at its end, or the run stops in it with an output and an outcome.
 pub data Flow : Type 0 where
   Falls : World → Flow
-  Stops : List ℕ → Ending → Flow
+  Stops : List ℕ → Outcome → Flow
 
 -- what follows a statement that was left at its end
 abbrev pub then_on : Flow → (World → Flow) → Flow
 then_on (Falls w) go = go w
-then_on (Stops output ending) go = Stops output ending
+then_on (Stops output outcome) go = Stops output outcome
 
 -- `putchar('C')` on a line and then what follows; where `most` bytes are out already, the run stops at this line
 abbrev pub put : ℕ → ℕ → ℕ → World → (World → Flow) → Flow
@@ -58,12 +58,12 @@ later_at most (suc n) c inner line w =
 -- What a run of a program puts, and how it ends.
 pub record Result : Type 0 where
   pub output : List ℕ
-  pub ending : Ending
+  pub outcome : Outcome
 
--- a run that comes to the end of the body returns the status; one that stopped keeps its output and ending
+-- a run that comes to the end of the body returns the status; one that stopped keeps its output and outcome
 abbrev pub result_of : ℕ → Flow → Result
-result_of status (Falls w) = record { output = w.output; ending = Returned status }
-result_of status (Stops output ending) = record { output = output; ending = ending }
+result_of status (Falls w) = record { output = w.output; outcome = Returned status }
+result_of status (Stops output outcome) = record { output = output; outcome = outcome }
 
 -- The meaning of a source on an input with n turns, where `most` bytes may be put: its body begins on line 2.
 abbrev pub meaning : ℕ → Form → List ℕ → ℕ → Result

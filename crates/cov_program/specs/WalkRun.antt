@@ -1,7 +1,7 @@
 -- The run of a graph, block by block, with the walk that it takes.
 use Rattle.std.specs.Prelude.{◌≡◌, ℕ, zero, suc, ◌-◌, ◌%◌, nat_lt, List, [], ◌∷◌, ◌++◌, length, Option, Some, None, slice_get, if◌then◌else◌, Bool, true, false, ℤ, pos, negsuc}
 use Rattle.std.specs.Ordering.{int_eq}
-use Rattle.cov_program.specs.Ending.{Ending, Returned, OutputLimit, OutOfTurns}
+use Rattle.cov_program.specs.Outcome.{Outcome, Returned, OutputLimit, OutOfTurns}
 use Rattle.cov_program.specs.Graph.{Op, Push, Drop, GetChar, PutChar, Equal, Exit, Jump, Back, Branch, Return, Block}
 
 -- A moment of a run at the start of a block: the input that is left, the output so far, the turns that are left, the walk so far,
@@ -13,16 +13,16 @@ pub record Moment : Type 0 where
   pub turns : ℕ
   pub walk : List ℕ
 
--- What a run gives: its output, its ending and its walk.
-pub record Outcome : Type 0 where
+-- What a run gives: its output, its outcome and its walk.
+pub record Trace : Type 0 where
   pub output : List ℕ
-  pub ending : Ending
+  pub outcome : Outcome
   pub walk : List ℕ
 
 -- A step of a run goes on at the start of a block, or is the last one; a graph that isn't sound may get stuck.
 pub data Step : Type 0 where
   Goes : Moment → Step
-  Over : Outcome → Step
+  Over : Trace → Step
   Stuck : Step
 
 -- a number modulo 256: the byte that `putchar` puts, and the status that `main` returns
@@ -36,8 +36,8 @@ truth true = pos 1
 truth false = pos 0
 
 -- the run stops in this block
-abbrev pub over : Moment → Ending → Step
-over m ending = Over (record { output = m.output; ending = ending; walk = m.walk })
+abbrev pub over : Moment → Outcome → Step
+over m outcome = Over (record { output = m.output; outcome = outcome; walk = m.walk })
 
 -- `getchar`: the next byte, or -1 where none is left
 abbrev pub got : List ℕ → Moment → (ℤ → Moment → Step) → Step
@@ -77,7 +77,7 @@ leaves (Branch nonzero other) [] m = Stuck
 leaves (Branch nonzero other) (x ∷ stack) m = if int_eq x (pos 0) then goes_to other m else goes_to nonzero m
 leaves Return [] m = Stuck
 leaves Return (x ∷ stack) m =
-    Over (record { output = m.output; ending = Returned (byte_of x); walk = m.walk ++ 1 ∷ [] })
+    Over (record { output = m.output; outcome = Returned (byte_of x); walk = m.walk ++ 1 ∷ [] })
 
 -- one block of the walk
 abbrev pub step_in : ℕ → Option Block → Moment → Step
@@ -88,15 +88,15 @@ step_in most (Some b) m = do_ops most b.ops [] m (leaves b.exit)
 abbrev pub step : ℕ → List Block → Moment → Step
 step most graph m = step_in most (slice_get graph (m.block - 2)) m
 
--- The run from this moment on has this outcome.
-pub data Runs (most : ℕ) (graph : List Block) : Moment → Outcome → Type 0 where
-  stops : {m : Moment} {o : Outcome} → step most graph m ≡ Over o → Runs most graph m o
-  goes : {m next : Moment} {o : Outcome} → step most graph m ≡ Goes next → Runs most graph next o → Runs most graph m o
+-- The run from this moment on has this trace.
+pub data Runs (most : ℕ) (graph : List Block) : Moment → Trace → Type 0 where
+  stops : {m : Moment} {o : Trace} → step most graph m ≡ Over o → Runs most graph m o
+  goes : {m next : Moment} {o : Trace} → step most graph m ≡ Goes next → Runs most graph next o → Runs most graph m o
 
 -- A run begins with a walk through 0 into 2.
 abbrev pub start : List ℕ → ℕ → Moment
 start input n = record { block = 2; input = input; output = []; turns = n; walk = 0 ∷ 2 ∷ [] }
 
--- The walk run of a graph on an input with n turns, where `most` bytes may be put, has this outcome.
-abbrev pub WalkRun : ℕ → List Block → List ℕ → ℕ → Outcome → Type 0
-WalkRun most graph input n outcome = Runs most graph (start input n) outcome
+-- The walk run of a graph on an input with n turns, where `most` bytes may be put, has this trace.
+abbrev pub WalkRun : ℕ → List Block → List ℕ → ℕ → Trace → Type 0
+WalkRun most graph input n trace = Runs most graph (start input n) trace

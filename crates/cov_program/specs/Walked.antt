@@ -3,18 +3,18 @@ use Rattle.std.specs.Prelude.{◌≡◌, ℕ, List, map}
 use Rattle.std.specs.List.{count_by}
 use Rattle.cov_base.specs.declared.net.FlowArc.{FlowArc}
 use Rattle.cov_base.specs.Walks.{moves, is_along}
-use Rattle.cov_program.specs.Ending.{Ending as EndingValue}
+use Rattle.cov_program.specs.Outcome.{Outcome as OutcomeValue}
 use Rattle.cov_program.specs.Graph.{Block}
 use Rattle.cov_program.specs.WalkRun.{WalkRun}
 use Rattle.cov_program.specs.Nets.{net_of}
-use Rattle.cov_program.specs.CoverText.{output_limit}
+use Rattle.cov_base.specs.Limits.{output_limit}
 
 -- the counters of arcs after a walk: for each arc in how many places of the walk its two ends follow each other
 abbrev pub counters_of : List FlowArc → List ℕ → List ℕ
 counters_of arcs walk = map (λ arc. count_by (is_along arc) (moves walk)) arcs
 
--- The run has an outcome of the graph's walk run, and the counters of its walk.
-pub record Walked (graph : List Block) (input : List ℕ) (turns : ℕ) (output : List ℕ) (ending : EndingValue) (counters : List ℕ) : Type 0 where
+-- The run has an trace of the graph's walk run, and the counters of its walk.
+pub record Walked (graph : List Block) (input : List ℕ) (turns : ℕ) (output : List ℕ) (outcome : OutcomeValue) (counters : List ℕ) : Type 0 where
   pub walk : List ℕ
-  pub run : WalkRun output_limit graph input turns (record { output = output; ending = ending; walk = walk })
+  pub run : WalkRun output_limit graph input turns (record { output = output; outcome = outcome; walk = walk })
   pub counted : counters ≡ counters_of (net_of graph).arcs walk

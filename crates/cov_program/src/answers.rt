@@ -1,7 +1,7 @@
 //! The answers of the top call: their exit statuses and what they say.
 
 ghost use Rattle.std.specs.Prelude.{◌≡◌, IfNone, IfSome};
-ghost use Rattle.cov_program.specs.Answers.{status_in, words_in, name_in};
+ghost use Rattle.cov_program.specs.Answers.{status_of, words_of, name_of};
 ghost use Rattle.cov_program.specs.declared.answers.End.TheVariants as answer;
 
 use std::alloc::{AllocError, AllocFailed};
@@ -59,12 +59,12 @@ impl<T: Drop> From<AllocFailed<T>> for End {
 
 /// The exit status of an answer.
 pub fn status_of(end: &End) -> u8
-    ensures { result ≡ status_in end.now }
+    ensures { result ≡ status_of end.now }
 {
     match end {
         End::Done => 0,
-        End::Usage(_)
-        | End::SourceRefused(_)
+        End::Usage(UsageFault::NotBuilt)
+        | End::SourceRefused(SourceFault::NotFirst)
         | End::Missing(_)
         | End::TooLong(_)
         | End::WriteFault

@@ -17,16 +17,16 @@ ghost use Rattle.std.specs.Prelude.{
 };
 ghost use Rattle.std.specs.List.{All};
 ghost use Rattle.cov_base.specs.Net.{IsNet, ascends};
-ghost use Rattle.cov_program.specs.Counts.{count_at, counted};
+ghost use Rattle.cov_program.specs.Counts.{count_at, count_by_arcs};
 ghost use Rattle.cov_program.specs.CountSteps.{
   holds,
   count_or_zero,
-  begun,
-  all_begun,
-  added_at,
-  added,
-  arc_added,
-  all_added,
+  begin_lines,
+  begin_all,
+  add_at,
+  add_to_lines,
+  add_arc,
+  add_arcs,
 };
 
 use cov_base::{FlowArc, Net};
@@ -43,7 +43,7 @@ fn begin(line: usize, counts: &mut [Option<u64>])
 
 /// Begins the counts of these lines at 0, where there is room for them.
 fn begin_lines(lines: &[u32], counts: &mut [Option<u64>])
-    ensures { counts.new ≡ begun lines.now counts.old }
+    ensures { counts.new ≡ begin_lines lines.now counts.old }
 {
     for line in lines {
         begin(*line as usize, counts);
@@ -52,7 +52,7 @@ fn begin_lines(lines: &[u32], counts: &mut [Option<u64>])
 
 /// As many counts, where those of the lines of the net's blocks begin at 0.
 fn code_lines(alloc: Global, net: &Net, size: usize) -> Result<Vec<Option<u64>>, AllocError>
-    ensures { IfOk result (λ counts. counts.items ≡ all_begun net.now.lines (replicate size None)) }
+    ensures { IfOk result (λ counts. counts.items ≡ begin_all net.now.lines (replicate size None)) }
 {
     let mut counts = vec![in alloc; None; size]?;
     for block in 0..net.blocks() {
@@ -65,7 +65,7 @@ fn code_lines(alloc: Global, net: &Net, size: usize) -> Result<Vec<Option<u64>>,
 fn add(counter: u64, others: &[u32], line: u32, counts: &mut [Option<u64>])
     requires { line < length counts.old → count_or_zero counts.old line + counter < 2 ^ 64 }
     ensures { counts.new
-        ≡ (if holds others.now line then counts.old else added_at line counter counts.old) }
+        ≡ (if holds others.now line then counts.old else add_at line counter counts.old) }
 {
     let at = line as usize;
     if at < counts.len() && !others.contains(&line) {
@@ -78,7 +78,7 @@ fn add_to_lines(counter: u64, others: &[u32], lines: &[u32], counts: &mut [Optio
     requires ascend { ascends 0 lines.now ≡ true }
     requires fits { (line : ℕ) → line < length counts.old
         → count_or_zero counts.old line + counter < 2 ^ 64 }
-    ensures { counts.new ≡ added counter others.now lines.now counts.old }
+    ensures { counts.new ≡ add_to_lines counter others.now lines.now counts.old }
 {
     for line in lines {
         add(counter, others, *line, counts);
@@ -91,7 +91,7 @@ fn add_arc(net: &Net, arc: &FlowArc, counter: u64, counts: &mut [Option<u64>])
     requires to { arc.now.to < net.now.blocks }
     requires fits { (line : ℕ) → line < length counts.old
         → count_or_zero counts.old line + counter < 2 ^ 64 }
-    ensures { counts.new ≡ arc_added net.now arc.now counter counts.old }
+    ensures { counts.new ≡ add_arc net.now arc.now counter counts.old }
 {
     add_to_lines(counter, net.lines(arc.from), net.lines(arc.to), counts);
 }
@@ -101,7 +101,7 @@ fn add_arcs(net: &Net, counters: &[u64], counts: &mut [Option<u64>])
     requires fits { length counters.now ≡ length net.now.arcs }
     requires below { All (λ n. n < 2 ^ 50) counters.now }
     requires fresh { (line : ℕ) → count_or_zero counts.old line ≡ 0 }
-    ensures added { counts.new ≡ all_added net.now net.now.arcs counters.now counts.old }
+    ensures added { counts.new ≡ add_arcs net.now net.now.arcs counters.now counts.old }
     ensures net { IsNet net.now }
 {
     for (i, arc) in net.arcs().iter().enumerate() {
@@ -120,7 +120,7 @@ pub fn line_counts(
     requires fits { length counters.now ≡ length net.now.arcs }
     requires below { All (λ n. n < 2 ^ 50) counters.now }
     ensures { IfOk result (λ counts. (length counts.items ≡ size) × ((line : ℕ) → line < size
-        → count_at counts.items line ≡ counted net.now counters.now line)) }
+        → count_at counts.items line ≡ count_by_arcs net.now counters.now line)) }
 {
     let mut counts = code_lines(alloc, net, size)?;
     add_arcs(net, counters, &mut counts);

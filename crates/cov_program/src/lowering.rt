@@ -1,6 +1,7 @@
 //! Graphs of sources of the first form.
 
 ghost use Rattle.std.specs.Prelude.{◌≡◌, ◌+◌, ◌*◌, ◌<◌, ◌≤◌, ◌^◌, length, OnOk, IfOk};
+ghost use Rattle.cov_base.specs.Limits.{source_limit};
 ghost use Rattle.cov_program.specs.FirstForm.{Body, Empty, loops_of, lines_of};
 ghost use Rattle.cov_program.specs.FormView.{item_before, body_of, form_of};
 ghost use Rattle.cov_program.specs.Graph.{graph_of};
@@ -15,7 +16,7 @@ use std::alloc::{AllocError, Global};
 /// The blocks of a form's graph, in order, the first being block 2.
 pub fn lower(alloc: Global, form: &Form) -> Result<Vec<Block>, AllocError>
     requires loops { loops_of (body_of form.now.body) ≤ 100 }
-    requires lines { lines_of (body_of form.now.body) ≤ 1048576 }
+    requires lines { lines_of (body_of form.now.body) ≤ source_limit }
     ensures { IfOk result (λ blocks. graph_seen blocks.items ≡ graph_of (form_of form.now)) }
 {
     let mut plan = Plan::new(alloc, 1);

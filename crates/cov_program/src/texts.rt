@@ -2,38 +2,39 @@
 
 ghost use Rattle.std.specs.Prelude.{◌≡◌, ◌≤◌, ◌++◌, length, codes, IfOk, OnOk};
 ghost use Rattle.std.specs.String.{string_bytes};
+ghost use Rattle.cov_base.specs.Limits.{source_limit};
 ghost use Rattle.cov_program.specs.CoverText.{
-  ending_text,
+  outcome_text,
   run_text,
-  annotated,
+  report_line,
   count_text,
   head_text,
-  annotated_lines,
+  report_lines,
   lines_in,
-  shown,
+  output_text,
 };
 ghost use Rattle.cov_program.specs.Counts.{count_at};
-ghost use Rattle.cov_program.specs.EndingView.{ending_of};
+ghost use Rattle.cov_program.specs.OutcomeView.{outcome_of};
 
-use crate::ending::Ending;
+use crate::outcome::Outcome;
 use crate::pieces::{push_right, split_line};
 use std::alloc::{AllocError, Global};
 
-/// An ending in words.
-#[tactic(auto, unfolding(crate::specs::CoverText::ending_text))]
-fn ending_words(alloc: Global, ending: Ending) -> Result<String, AllocError>
-    ensures { IfOk result (λ words. string_bytes words ≡ ending_text (ending_of ending)) }
+/// An outcome in words.
+#[tactic(auto, unfolding(crate::specs::CoverText::outcome_text))]
+fn outcome_words(alloc: Global, outcome: Outcome) -> Result<String, AllocError>
+    ensures { IfOk result (λ words. string_bytes words ≡ outcome_text (outcome_of outcome)) }
 {
-    match ending {
-        Ending::Returned(status) => format!(in alloc; "returned {status}"),
-        Ending::OutputLimit(line) => format!(in alloc; "trapped output limit at line {line}"),
-        Ending::OutOfTurns => format!(in alloc; "out of turns"),
+    match outcome {
+        Outcome::Returned(status) => format!(in alloc; "returned {status}"),
+        Outcome::OutputLimit(line) => format!(in alloc; "trapped output limit at line {line}"),
+        Outcome::OutOfTurns => format!(in alloc; "out of turns"),
     }
 }
 
 /// Appends an output and a newline, or nothing where there is no output.
-fn push_shown(out: &mut Vec<u8>, output: &[u8]) -> Result<(), AllocError>
-    ensures { OnOk result (out.new.items ≡ out.old.items ++ shown output.now) }
+fn push_output(out: &mut Vec<u8>, output: &[u8]) -> Result<(), AllocError>
+    ensures { OnOk result (out.new.items ≡ out.old.items ++ output_text output.now) }
 {
     if output.is_empty() {
         return Ok(());
@@ -49,29 +50,29 @@ pub fn push_run(
     alloc: Global,
     out: &mut Vec<u8>,
     name: &str,
-    ending: Ending,
+    outcome: Outcome,
     output: &[u8],
 ) -> Result<(), AllocError>
     ensures { OnOk result (out.new.items ≡ out.old.items
-        ++ run_text name.now (record { output = output.now; ending = ending_of ending })) }
+        ++ run_text name.now (record { output = output.now; outcome = outcome_of outcome })) }
 {
-    let words = ending_words(alloc, ending)?;
+    let words = outcome_words(alloc, outcome)?;
     let count = output.len();
     out.extend_from_slice(format!(in alloc; "run {name}: {words}, {count} bytes\n")?.as_bytes())?;
-    push_shown(out, output)?;
+    push_output(out, output)?;
     Ok(())
 }
 
 /// Appends a line of the report: a count, a line number and a text.
-#[tactic(auto, unfolding(crate::specs::CoverText::annotated))]
-fn push_annotated(
+#[tactic(auto, unfolding(crate::specs::CoverText::report_line))]
+fn push_report_line(
     alloc: Global,
     out: &mut Vec<u8>,
     count: &str,
     number: usize,
     text: &[u8],
 ) -> Result<(), AllocError>
-    ensures { OnOk result (out.new.items ≡ out.old.items ++ annotated count.now number text.now) }
+    ensures { OnOk result (out.new.items ≡ out.old.items ++ report_line count.now number text.now) }
 {
     push_right(out, 9, count.as_bytes())?;
     out.push(b':')?;
@@ -84,9 +85,9 @@ fn push_annotated(
 
 /// Appends a line of the head, which has no count and the number 0.
 fn push_head_line(alloc: Global, out: &mut Vec<u8>, text: &str) -> Result<(), AllocError>
-    ensures { OnOk result (out.new.items ≡ out.old.items ++ annotated (codes "-") 0 text.now) }
+    ensures { OnOk result (out.new.items ≡ out.old.items ++ report_line (codes "-") 0 text.now) }
 {
-    push_annotated(alloc, out, "-", 0, text.as_bytes())?;
+    push_report_line(alloc, out, "-", 0, text.as_bytes())?;
     Ok(())
 }
 
@@ -122,22 +123,22 @@ fn line_count(counts: &[Option<u64>], number: usize) -> Option<u64>
 }
 
 /// Appends each source line with its count; `counts` holds the count of line n at n, and none past its end.
-pub fn push_lines(
+pub fn push_report_lines(
     alloc: Global,
     out: &mut Vec<u8>,
     source: &[u8],
     counts: &[Option<u64>],
 ) -> Result<(), AllocError>
-    requires { length source.now ≤ 1048576 }
+    requires { length source.now ≤ source_limit }
     ensures { OnOk result (out.new.items ≡ out.old.items
-        ++ annotated_lines (count_at counts.now) 1 (lines_in source.now)) }
+        ++ report_lines (count_at counts.now) 1 (lines_in source.now)) }
 {
     let mut rest = source;
     let mut number = 1;
     while !rest.is_empty() {
         let (line, after) = split_line(rest);
         let words = count_words(alloc, line_count(counts, number))?;
-        push_annotated(alloc, out, words.as_str(), number, line)?;
+        push_report_line(alloc, out, words.as_str(), number, line)?;
         rest = after;
         number += 1;
     }

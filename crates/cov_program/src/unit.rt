@@ -1,35 +1,54 @@
-//! Sources compiled to blocks and nets.
-ghost use Rattle.std.specs.Prelude.{◌≡◌, IfOk, ◌<◌, ◌≤◌, length};
-ghost use Rattle.cov_program.specs.FirstForm.{loops_of, lines_of, HasChars};
+//! Sources compiled to blocks and nets, and their runs.
+ghost use Rattle.std.specs.Prelude.{◌≡◌, IfOk, ◌<◌, ◌≤◌, ◌^◌, length};
+ghost use Rattle.std.specs.List.{All};
+ghost use Rattle.cov_base.specs.Limits.{source_limit};
+ghost use Rattle.cov_program.specs.Exits.{IsRunnable};
+ghost use Rattle.cov_program.specs.FirstForm.{loops_of, lines_of};
 ghost use Rattle.cov_program.specs.FormView.{body_of, form_of};
 ghost use Rattle.cov_program.specs.Graph.{graph_of};
 ghost use Rattle.cov_program.specs.GraphView.{graph_seen};
-ghost use Rattle.cov_program.specs.Nets.{net_of, firsts_from};
+ghost use Rattle.cov_program.specs.Nets.{net_of};
+ghost use Rattle.cov_program.specs.OutcomeView.{outcome_of};
+ghost use Rattle.cov_program.specs.CoverText.{is_closed};
+ghost use Rattle.cov_program.specs.Steps.{Ran, closed_counters};
 
 use crate::form::Form;
 use crate::graph::Block;
 use crate::lowering::lower;
 use crate::nets::{arcs_of, first_arcs, lines_of_blocks};
-use cov_base::{FlowArc, Net, Refusal};
+use crate::outcome::Outcome;
+use crate::walker::{GraphRun, walk};
+use cov_base::{DEFAULT_TURNS, Net, Refusal};
 use std::alloc::{AllocError, Global};
+use std::marker::Model;
 
-/// A compiled source: its blocks, the index of the first arc that leaves each, and its net.
+/// A compiled source: its graph, the index of the first arc that leaves each block, and its net.
 #[derive(Drop)]
 pub struct Unit {
-    pub blocks: Vec<Block>,
-    pub firsts: Vec<usize>,
-    pub net: Net,
+    blocks: Vec<Block>,
+    firsts: Vec<usize>,
+    net: Net,
+}
+
+impl Model for Unit {
+    ghost use Rattle.std.specs.Prelude.{◌≡◌, List};
+    ghost use Rattle.cov_program.specs.Graph.{Block};
+    ghost use Rattle.cov_program.specs.GraphView.{graph_seen};
+    ghost use Rattle.cov_program.specs.Nets.{net_of, firsts_from};
+
+    ghost Value = { List Block };
+
+    ghost view = { λ u. graph_seen u.blocks.items };
+
+    ghost invariant = { λ u. (u.firsts.items ≡ firsts_from 1 (graph_seen u.blocks.items))
+        × (u.net ≡ net_of (graph_seen u.blocks.items)) };
 }
 
 /// Compiles a form of at most 100 loops.
 pub fn compile(alloc: Global, form: &Form) -> Result<Unit, AllocError>
     requires loops { loops_of (body_of form.now.body) ≤ 100 }
-    requires lines { lines_of (body_of form.now.body) ≤ 1048576 }
-    ensures graph { IfOk result (λ unit. graph_seen unit.blocks.items
-        ≡ graph_of (form_of form.now)) }
-    ensures firsts { IfOk result (λ unit. unit.firsts.items
-        ≡ firsts_from 1 (graph_of (form_of form.now))) }
-    ensures net { IfOk result (λ unit. unit.net ≡ net_of (graph_of (form_of form.now))) }
+    requires lines { lines_of (body_of form.now.body) ≤ source_limit }
+    ensures { IfOk result (λ unit. unit ≡ graph_of (form_of form.now)) }
 {
     let blocks = lower(alloc, form)?;
     let firsts = first_arcs(alloc, &blocks)?;
@@ -54,4 +73,49 @@ fn net_from(alloc: Global, form: &Form, blocks: &[Block]) -> Result<Net, AllocEr
         Err(Refusal::NoMemory) => Err(AllocError),
         Err(Refusal::Refused(_)) => unreachable!(),
     }
+}
+
+impl Unit {
+    /// The net of the graph.
+    pub fn net(&self) -> &Net
+        ensures { result.now ≡ net_of self.now }
+    {
+        &self.net
+    }
+
+    /// Runs the graph on the input. The counters of a run that isn't closed are 0.
+    pub fn run(&self, alloc: Global, input: &[u8]) -> Result<GraphRun, AllocError>
+        requires { IsRunnable self.now }
+        ensures ran { IfOk result (λ run. Ran self.now input.now run.output.items
+            (outcome_of run.outcome) run.counters.items) }
+        ensures below { IfOk result (λ run. All (λ n. n < 2 ^ 50) run.counters.items) }
+    {
+        let arcs = self.net.arcs().len();
+        let mut run = walk(
+            alloc,
+            &self.blocks,
+            &self.firsts,
+            arcs,
+            input,
+            DEFAULT_TURNS,
+        )?;
+        clear_unless_closed(run.outcome, &mut run.counters);
+        Ok(run)
+    }
+}
+
+/// Sets the counters to 0 where the run isn't closed.
+fn clear_unless_closed(outcome: Outcome, counters: &mut Vec<u64>)
+    ensures { counters.new.items ≡ closed_counters (outcome_of outcome) counters.old.items }
+{
+    if !is_closed(outcome) {
+        counters.fill(0);
+    }
+}
+
+/// Whether a run with this outcome counts.
+pub fn is_closed(outcome: Outcome) -> bool
+    ensures { result ≡ is_closed (outcome_of outcome) }
+{
+    matches!(outcome, Outcome::Returned(_))
 }

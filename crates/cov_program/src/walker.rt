@@ -19,9 +19,9 @@ ghost use Rattle.std.specs.Prelude.{
 ghost use Rattle.std.specs.List.{All};
 ghost use Rattle.cov_program.specs.Graph.{Return};
 ghost use Rattle.cov_program.specs.GraphView.{graph_seen, exit_of};
-ghost use Rattle.cov_program.specs.EndingView.{ending_of};
+ghost use Rattle.cov_program.specs.OutcomeView.{outcome_of};
 ghost use Rattle.cov_program.specs.Nets.{net_of, firsts_from, arcs_by};
-ghost use Rattle.cov_program.specs.CoverText.{output_limit};
+ghost use Rattle.cov_base.specs.Limits.{output_limit};
 ghost use Rattle.cov_program.specs.Exits.{AreExits};
 ghost use Rattle.cov_program.specs.Walked.{Walked};
 ghost use Rattle.cov_program.specs.Advance.{
@@ -37,19 +37,17 @@ ghost use Rattle.cov_program.specs.Advance.{
   tested,
 };
 
-use crate::ending::Ending;
+use crate::outcome::Outcome;
 use crate::graph::{Block, Exit, Put};
+use cov_base::OUTPUT_LIMIT;
 use std::alloc::{AllocError, Global};
 use std::marker::Model;
 
-/// How many bytes a run may put.
-const OUTPUT_LIMIT: usize = 16_777_216;
-
-/// What a run gives: its output, its ending, and how often it passed each arc of the net.
+/// What a run gives: its output, its outcome, and how often it passed each arc of the net.
 #[derive(Debug, Drop)]
-pub struct Run {
+pub struct GraphRun {
     pub output: Vec<u8>,
-    pub ending: Ending,
+    pub outcome: Outcome,
     pub counters: Vec<u64>,
 }
 
@@ -122,13 +120,13 @@ impl<'a> Position<'a> {
     }
 
     /// Goes back to a block, which takes a turn; says so where none is left.
-    fn go_back(&mut self, arc: usize, target: u32) -> Option<Ending>
+    fn go_back(&mut self, arc: usize, target: u32) -> Option<Outcome>
         requires within { arc < length self.old.counters }
         requires room { All (λ n. n < 2 ^ 50) self.old.counters }
         ensures { goes_back arc target self.old ≡ advance result self.new }
     {
         if self.turns == 0 {
-            return Some(Ending::OutOfTurns);
+            return Some(Outcome::OutOfTurns);
         }
         self.turns -= 1;
         self.pass(arc, target);
@@ -154,7 +152,7 @@ impl<'a> Position<'a> {
     }
 
     /// Leaves a block by its exit, the first of whose arcs has this index.
-    fn leave(&mut self, exit: Exit, arc: usize) -> Option<Ending>
+    fn leave(&mut self, exit: Exit, arc: usize) -> Option<Outcome>
         requires within { arc + length (arcs_by 0 (exit_of exit)) ≤ length self.old.counters }
         requires room { All (λ n. n < 2 ^ 50) self.old.counters }
         ensures { leaves_by exit arc self.old ≡ advance result self.new }
@@ -176,21 +174,21 @@ impl<'a> Position<'a> {
             }
             Exit::Return(status) => {
                 self.count(arc);
-                Some(Ending::Returned(status))
+                Some(Outcome::Returned(status))
             }
         }
     }
 
     /// One block of the walk, the first of whose arcs has this index.
-    fn step(&mut self, block: &Block, arc: usize) -> Result<Option<Ending>, AllocError>
+    fn step(&mut self, block: &Block, arc: usize) -> Result<Option<Outcome>, AllocError>
         requires within { arc + length (arcs_by 0 (exit_of block.now.exit)) ≤ length self.old.counters }
         requires room { All (λ n. n < 2 ^ 50) self.old.counters }
-        ensures { IfOk result (λ ending. advanced block.now arc self.old
-            ≡ advance ending self.new) }
+        ensures { IfOk result (λ outcome. advanced block.now arc self.old
+            ≡ advance outcome self.new) }
     {
         match put_all(&block.puts, &mut self.output) {
             Ok(None) => Ok(self.leave(block.exit, arc)),
-            Ok(Some(line)) => Ok(Some(Ending::OutputLimit(line))),
+            Ok(Some(line)) => Ok(Some(Outcome::OutputLimit(line))),
             Err(error) => Err(error),
         }
     }
@@ -218,7 +216,7 @@ pub fn walk(
     arcs: usize,
     input: &[u8],
     turns: u64,
-) -> Result<Run, AllocError>
+) -> Result<GraphRun, AllocError>
     requires some { 0 < length blocks.now }
     requires few { length blocks.now ≤ 510 }
     requires exits { AreExits 2 (2 + length blocks.now) (graph_seen blocks.now) }
@@ -226,8 +224,8 @@ pub fn walk(
     requires arcs { arcs ≡ length (net_of (graph_seen blocks.now)).arcs }
     requires turns { turns ≤ 1099511627776 }
     ensures walked { IfOk result
-        (λ run. Walked (graph_seen blocks.now) input.now turns run.output.items (ending_of
-        run.ending) run.counters.items) }
+        (λ run. Walked (graph_seen blocks.now) input.now turns run.output.items (outcome_of
+        run.outcome) run.counters.items) }
     ensures below { IfOk result (λ run. All (λ n. n < 2 ^ 50) run.counters.items) }
 {
     let mut position = Position::start(alloc, input, turns, arcs)?;
@@ -235,15 +233,15 @@ pub fn walk(
         let at = position.block - 2;
         match position.step(&blocks[at], firsts[at]) {
             Ok(None) => {}
-            Ok(Some(ending)) => {
+            Ok(Some(outcome)) => {
                 let Position {
                     output,
                     counters,
                     ..
                 } = position;
-                return Ok(Run {
+                return Ok(GraphRun {
                     output,
-                    ending,
+                    outcome,
                     counters,
                 });
             }

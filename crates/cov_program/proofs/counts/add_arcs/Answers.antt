@@ -1,7 +1,7 @@
 use Rattle.std.proofs.Common.{◌≡◌, ℕ, Option, ◌+◌, ◌*◌, ◌^◌, ◌<◌, ◌≤◌, List, length, get_or, drop, sym, subst, ap, ◌∙◌, arith}
 use Rattle.cov_base.specs.declared.net.ArcKind.TheVariants.{Real}
 use Rattle.cov_base.specs.declared.net.FlowArc.{FlowArc}
-use Rattle.cov_program.specs.CountSteps.{count_or_zero, arc_added, all_added}
+use Rattle.cov_program.specs.CountSteps.{count_or_zero, add_arc, add_arcs}
 use Rattle.cov_program.proofs.CountLaws.{arc_within, all_added_more, arc_room}
 use Rattle.cov_program.proofs.counts.add_arcs.Goals as goal
 
@@ -31,11 +31,11 @@ loop-i-preserved c =
     let arc = get_or net.arcs i none in
     let in_arcs : i < length net.arcs = omega (arith, c.loop-i-test.true, ap length value) in
     let in_counters : i < length counters = omega (arith, c.requires.fits) in
-    let is_next : c.add_arc.new.counts ≡ arc_added net arc n counts =
-    c.add_arc.ensures ∙ ap (λ arcs. arc_added net (get_or arcs i none) n counts) value in
+    let is_next : c.add_arc.new.counts ≡ add_arc net arc n counts =
+    c.add_arc.ensures ∙ ap (λ arcs. add_arc net (get_or arcs i none) n counts) value in
     let small : n < 2 ^ 50 = c.requires.below i 0 in_counters in
     record {
-      left = ap (all_added net (drop (i + 1) net.arcs) (drop (i + 1) counters)) is_next
+      left = ap (add_arcs net (drop (i + 1) net.arcs) (drop (i + 1) counters)) is_next
           ∙ sym (all_added_more net net.arcs counters counts i none in_arcs in_counters)
           ∙ c.loop-i.invariant.left;
       room = λ line.

@@ -1,6 +1,6 @@
 use Rattle.std.proofs.Common.{◌≡◌, drop}
-use Rattle.cov_program.specs.CountSteps.{all_begun}
+use Rattle.cov_program.specs.CountSteps.{begin_all}
 use Rattle.cov_program.proofs.counts.code_lines.Given as goal
 
 abbrev pub invariant-loop-block : goal.invariant-loop-block
-invariant-loop-block l = all_begun (drop l.block l.net.lines) l.counts.items ≡ all_begun l.net.lines l.initial.counts.items
+invariant-loop-block l = begin_all (drop l.block l.net.lines) l.counts.items ≡ begin_all l.net.lines l.initial.counts.items

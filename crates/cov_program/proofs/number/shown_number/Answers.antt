@@ -20,5 +20,5 @@ returns-else-eq-clause-none c = λ n low e.
     (let text = c.in-Ok.ensures.cases.0 ∙ e in
     let parsed = sym c.in-Ok-parse.is ∙ parse-decimal 8 n c.in-Ok.text.now c.parse.result (omega arith) (omega arith) text c.parse.ensures.value.0 in
     let number : c.in-Ok-parse.number ≡ n = cc in
-    let shown = c.as_str.ensures.value ∙ (c.in_ok-to_string.ensures.ok ∙ (ap decimal number ∙ sym text)) in
-    false≢true (c.if-eq.ensures ∙ (bytes_eq-Decides c.as_str.result.now c.in-Ok.text.now).1 shown))
+    let output_text = c.as_str.ensures.value ∙ (c.in_ok-to_string.ensures.ok ∙ (ap decimal number ∙ sym text)) in
+    false≢true (c.if-eq.ensures ∙ (bytes_eq-Decides c.as_str.result.now c.in-Ok.text.now).1 output_text))

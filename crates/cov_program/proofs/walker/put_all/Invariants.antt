@@ -1,5 +1,5 @@
 use Rattle.std.proofs.Common.{◌≡◌, drop}
-use Rattle.cov_program.specs.CoverText.{output_limit}
+use Rattle.cov_base.specs.Limits.{output_limit}
 use Rattle.cov_program.specs.Advance.{put_each}
 use Rattle.cov_program.proofs.walker.put_all.Given as goal
 

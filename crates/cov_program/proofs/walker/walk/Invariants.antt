@@ -3,8 +3,8 @@ use Rattle.cov_program.specs.GraphView.{graph_seen}
 use Rattle.cov_program.proofs.Walking.{IsWalking}
 use Rattle.cov_program.proofs.walker.walk.Given as goal
 
-abbrev pub invariant-loop-ending : goal.invariant-loop-ending
-invariant-loop-ending l = IsWalking (graph_seen l.blocks) l.input l.turns l.position
+abbrev pub invariant-loop-outcome : goal.invariant-loop-outcome
+invariant-loop-outcome l = IsWalking (graph_seen l.blocks) l.input l.turns l.position
 
-abbrev pub decreases-loop-ending : goal.decreases-loop-ending
-decreases-loop-ending l = l.position.turns * length l.blocks + (2 + length l.blocks - l.position.block)
+abbrev pub decreases-loop-outcome : goal.decreases-loop-outcome
+decreases-loop-outcome l = l.position.turns * length l.blocks + (2 + length l.blocks - l.position.block)

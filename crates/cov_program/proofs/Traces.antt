@@ -1,22 +1,22 @@
--- A run of a graph has one outcome; its walk goes on from where it began, and is closed where the run returns.
+-- A run of a graph has one trace; its walk goes on from where it began, and is closed where the run returns.
 use Rattle.std.proofs.Common.{◌≡◌, ℕ, zero, suc, List, [], ◌∷◌, ◌++◌, Option, Some, None, Bool, true, false, ℤ, pos, negsuc, length, refl, sym, subst, ap, ◌∙◌, append_assoc, append-nil}
 use Rattle.std.specs.Prelude.{nat_lt, slice_get, if◌then◌else◌, ◌-◌}
 use Rattle.std.specs.Ordering.{int_eq}
-use Rattle.cov_program.specs.Ending.{Ending, Returned, OutputLimit, OutOfTurns}
+use Rattle.cov_program.specs.Outcome.{Outcome, Returned, OutputLimit, OutOfTurns}
 use Rattle.cov_program.specs.Graph.{Op, Push, Drop, GetChar, PutChar, Equal, Exit, Jump, Back, Branch, Return, Block}
-use Rattle.cov_program.specs.WalkRun.{Moment, Outcome, Step, Goes, Over, Stuck, byte_of, truth, over, got, do_ops, goes_to, goes_back, leaves, step_in, step, Runs, stops, goes}
+use Rattle.cov_program.specs.WalkRun.{Moment, Trace, Step, Goes, Over, Stuck, byte_of, truth, over, got, do_ops, goes_to, goes_back, leaves, step_in, step, Runs, stops, goes}
 
--- a run has at most one outcome
-pub one_outcome : (most : ℕ) (graph : List Block) (m : Moment) (o p : Outcome) → Runs most graph m o → Runs most graph m p → o ≡ p
-one_outcome most graph m o p (stops e) (stops f) = cc
-one_outcome most graph m o p (stops e) (goes f s) = absurd (cc)
-one_outcome most graph m o p (goes e r) (stops f) = absurd (cc)
-one_outcome most graph m o p (goes {next = a} e r) (goes {next = b} f s) =
+-- a run has at most one trace
+pub one_trace : (most : ℕ) (graph : List Block) (m : Moment) (o p : Trace) → Runs most graph m o → Runs most graph m p → o ≡ p
+one_trace most graph m o p (stops e) (stops f) = cc
+one_trace most graph m o p (stops e) (goes f s) = absurd (cc)
+one_trace most graph m o p (goes e r) (stops f) = absurd (cc)
+one_trace most graph m o p (goes {next = a} e r) (goes {next = b} f s) =
     let same : b ≡ a = cc in
-    one_outcome most graph a o p r (subst (λ n. Runs most graph n p) same s)
+    one_trace most graph a o p r (subst (λ n. Runs most graph n p) same s)
 
 -- where the run returns, the walk ends in 1
-abbrev EndsClosed : Ending → List ℕ → Type 0
+abbrev EndsClosed : Outcome → List ℕ → Type 0
 EndsClosed (Returned status) walk = (front : List ℕ) × (walk ≡ front ++ 1 ∷ [])
 EndsClosed (OutputLimit line) walk = Unit {0}
 EndsClosed OutOfTurns walk = Unit {0}
@@ -24,7 +24,7 @@ EndsClosed OutOfTurns walk = Unit {0}
 -- after a step from this walk the walk goes on from it, and is closed where the run returns
 abbrev GoesOn : List ℕ → Step → Type 0
 GoesOn walk (Goes next) = (rest : List ℕ) × (next.walk ≡ walk ++ rest)
-GoesOn walk (Over o) = ((rest : List ℕ) × (o.walk ≡ walk ++ rest)) × EndsClosed o.ending o.walk
+GoesOn walk (Over o) = ((rest : List ℕ) × (o.walk ≡ walk ++ rest)) × EndsClosed o.outcome o.walk
 GoesOn walk Stuck = Unit {0}
 
 -- the same of either way on
@@ -86,7 +86,7 @@ step_goes_on : (most : ℕ) (graph : List Block) (m : Moment) → GoesOn m.walk 
 step_goes_on most graph m = block_goes_on most (slice_get graph (m.block - 2)) m
 
 -- a run's walk goes on from where the run began, and is closed where the run returns
-runs_go_on : (most : ℕ) (graph : List Block) (m : Moment) (o : Outcome) → Runs most graph m o → GoesOn m.walk (Over o)
+runs_go_on : (most : ℕ) (graph : List Block) (m : Moment) (o : Trace) → Runs most graph m o → GoesOn m.walk (Over o)
 runs_go_on most graph m o (stops e) = subst (GoesOn m.walk) e (step_goes_on most graph m)
 runs_go_on most graph m o (goes {next = next} e r) =
     let first = subst (GoesOn m.walk) e (step_goes_on most graph m) in
@@ -94,8 +94,8 @@ runs_go_on most graph m o (goes {next = next} e r) =
     ((first.0 ++ later.0.0, later.0.1 ∙ (ap (λ w. w ++ later.0.0) first.1 ∙ append_assoc m.walk first.0 later.0.0)), later.1)
 
 -- Where a run returns, its walk ends in 1; and each walk goes on from the walk with which the run began.
-pub closes : (most : ℕ) (graph : List Block) (m : Moment) (o : Outcome) → Runs most graph m o
-    → ((status : ℕ) → o.ending ≡ Returned status → (front : List ℕ) × (o.walk ≡ front ++ 1 ∷ [])) × ((rest : List ℕ) × (o.walk ≡ m.walk ++ rest))
+pub closes : (most : ℕ) (graph : List Block) (m : Moment) (o : Trace) → Runs most graph m o
+    → ((status : ℕ) → o.outcome ≡ Returned status → (front : List ℕ) × (o.walk ≡ front ++ 1 ∷ [])) × ((rest : List ℕ) × (o.walk ≡ m.walk ++ rest))
 closes most graph m o r =
     let h = runs_go_on most graph m o r in
-    (λ status e. subst (λ ending. EndsClosed ending o.walk) e h.1, h.0)
+    (λ status e. subst (λ outcome. EndsClosed outcome o.walk) e h.1, h.0)

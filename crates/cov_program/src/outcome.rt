@@ -2,7 +2,7 @@
 
 /// How a run of a source ends.
 #[derive(Clone, Copy, Debug, PartialEq, Eq)]
-pub enum Ending {
+pub enum Outcome {
     /// `main` returned this status.
     Returned(u8),
     /// The `putchar` on this line would put a byte past the output's limit.

@@ -2,7 +2,7 @@
 use Rattle.std.specs.Prelude.{ℕ}
 
 -- A run returns a status, stops at a `putchar` on a line since its output is full, or is out of turns.
-pub data Ending : Type 0 where
-  Returned : ℕ → Ending
-  OutputLimit : ℕ → Ending
-  OutOfTurns : Ending
+pub data Outcome : Type 0 where
+  Returned : ℕ → Outcome
+  OutputLimit : ℕ → Outcome
+  OutOfTurns : Outcome

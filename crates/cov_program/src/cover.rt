@@ -1,0 +1,126 @@
+//! The command `cover`, step by step.
+
+ghost use Rattle.std.specs.Prelude.{
+  ◌≡◌,
+  ◌≤◌,
+  length,
+  IfErr,
+  IfOk,
+  IfSome,
+  IsErrOf,
+};
+ghost use Rattle.cov_outside.specs.Outside.{HasCause};
+ghost use Rattle.cov_program.specs.Answers.{IsUsage};
+ghost use Rattle.cov_program.specs.Cover.{Covers, HasCoverReason, IsCoverUnwritten};
+ghost use Rattle.cov_program.specs.CoverText.{stem};
+ghost use Rattle.cov_program.specs.Words.{IsSourceName};
+ghost use Rattle.cov_program.specs.Steps.{LoadsFile, ReadsForm, Prepares, IsEarly, WritesText};
+
+use crate::answers::{End, SourceFault};
+use crate::form::Form;
+use crate::reader::read_form;
+use crate::rendering::{count, text};
+use crate::unit::compile;
+use crate::words::CoverWords;
+use cov_base::{FILE_LIMIT, SOURCE_LIMIT};
+use cov_outside::{Folder, LoadFault, Sink, SinkFault, write_all};
+use std::alloc::Global;
+
+/// Covers the source on the input of these names: makes the text and writes it.
+pub fn cover<K: Sink, F: Folder>(
+    alloc: Global,
+    names: CoverWords<'_>,
+    out: &mut K,
+    folder: &mut F,
+) -> End
+    requires name { IsSourceName names.source.now }
+    requires stem { names.stem.now ≡ stem names.source.now }
+    ensures covers { IfSome (F.files folder.old) (λ files. IfSome (K.written out.old)
+        (λ before. Covers files names.entry.source.now names.entry.input.now before
+        (K.written out.new) result)) }
+    ensures reason { IfSome (F.files folder.old) (λ files.
+        HasCoverReason files names.entry.source.now names.entry.input.now result) }
+    ensures usage { IsUsage result → ⊥ }
+    ensures files { F.files folder.new ≡ F.files folder.old }
+    ensures unwritten { IsCoverUnwritten result → out.new ≡ out.old }
+    ensures write_fault { HasCause (K.faults out.old) (K.faults out.new)
+        (result ≡ End.WriteFault) }
+    ensures out_wants { HasCause (K.wants out.old) (K.wants out.new) ⊥ }
+    ensures folder_fault { HasCause (F.faults folder.old) (F.faults folder.new)
+        (result ≡ End.FolderFault) }
+{
+    match cover_text(alloc, names, folder) {
+        Ok(text) => write(out, &text),
+        Err(end) => end,
+    }
+}
+
+/// Loads the source, reads its form and compiles it, loads the input, runs the source on it, counts the lines, and
+/// makes the text.
+fn cover_text<F: Folder>(
+    alloc: Global,
+    names: CoverWords<'_>,
+    folder: &mut F,
+) -> Result<Vec<u8>, End>
+    requires name { IsSourceName names.source.now }
+    requires stem { names.stem.now ≡ stem names.source.now }
+    ensures prepares { IfSome (F.files folder.old) (λ files.
+        Prepares files names.entry.source.now names.entry.input.now result) }
+    ensures early { IfErr result IsEarly }
+    ensures files { F.files folder.new ≡ F.files folder.old }
+    ensures cause { HasCause (F.faults folder.old) (F.faults folder.new)
+        (IsErrOf result End.FolderFault) }
+{
+    let source = load(alloc, folder, names.source, SOURCE_LIMIT)?;
+    let form = read(alloc, &source)?;
+    let unit = compile(alloc, &form)?;
+    let input = load(alloc, folder, names.input, FILE_LIMIT)?;
+    let run = unit.run(alloc, &input)?;
+    let counts = count(alloc, unit.net(), &run, &source)?;
+    Ok(text(alloc, names, &source, &run, &counts)?)
+}
+
+/// The bytes of a file that is there and no longer than the limit.
+fn load<F: Folder>(alloc: Global, folder: &mut F, name: &str, limit: usize) -> Result<Vec<u8>, End>
+    ensures loads { IfSome (F.files folder.old) (λ files. LoadsFile files name.now limit result) }
+    ensures fits { IfOk result (λ bytes. length bytes.items ≤ limit) }
+    ensures early { IfErr result IsEarly }
+    ensures files { F.files folder.new ≡ F.files folder.old }
+    ensures cause { HasCause (F.faults folder.old) (F.faults folder.new)
+        (IsErrOf result End.FolderFault) }
+{
+    match folder.load(name, limit) {
+        Ok(Some(bytes)) => Ok(bytes),
+        Ok(None) => Err(End::Missing(String::from_str(alloc, name)?)),
+        Err(LoadFault::TooLong) => Err(End::TooLong(String::from_str(alloc, name)?)),
+        Err(LoadFault::Failed) => Err(End::FolderFault),
+        Err(LoadFault::NoMemory) => Err(End::NoMemory),
+    }
+}
+
+/// The form of a source that is of the first form.
+fn read(alloc: Global, source: &[u8]) -> Result<Form, End>
+    ensures reads { ReadsForm source.now result }
+    ensures early { IfErr result IsEarly }
+    ensures folder { IfErr result (λ end. end ≡ End.FolderFault → ⊥) }
+{
+    match read_form(alloc, source)? {
+        Some(form) => Ok(form),
+        None => Err(End::SourceRefused(SourceFault::NotFirst)),
+    }
+}
+
+/// Writes the whole text, and says how that ended.
+fn write<K: Sink>(out: &mut K, text: &[u8]) -> End
+    ensures writes { WritesText (K.written out.old) (K.written out.new) text.now result }
+    ensures written { IsCoverUnwritten result → ⊥ }
+    ensures write_fault { HasCause (K.faults out.old) (K.faults out.new)
+        (result ≡ End.WriteFault) }
+    ensures out_wants { HasCause (K.wants out.old) (K.wants out.new) ⊥ }
+{
+    match write_all(out, text) {
+        Ok(()) => End::Done,
+        Err(SinkFault::Failed) => End::WriteFault,
+        Err(SinkFault::NoMemory) => End::NoMemory,
+    }
+}
