@@ -2,44 +2,80 @@
 #![tactic(auto)]
 
 ghost use Rattle.std.specs.Prelude.{IfErr};
+ghost use Rattle.cov.specs.Finished.{Finishes};
 ghost use Rattle.cov.specs.Wordless.{IsWordless};
 
-use cov_outside::{DirFolder, StdErr, StdSink, StdSource};
+use cov_outside::{DirFolder, Folder, Sink, Source, StdErr, StdSink, StdSource};
 use cov_program::{End, UsageFault, perform, status_of, tell};
+use std::alloc::Global;
+use std::env::Args;
 use std::io::ErrorKind;
 use std::process::ExitCode;
 use std::{env, io};
 
 fn main(rt: HostRuntime) -> ExitCode {
-    let mut err = StdErr::new(rt.stderr());
-    let end = match words(&rt) {
+    let status = finish(
+        rt.alloc(),
+        words(rt.alloc(), env::args(&rt)),
+        &mut StdSource::new(rt.stdin()),
+        &mut StdSink::new(rt.stdout()),
+        &mut StdErr::new(rt.stderr()),
+        &mut DirFolder::new(rt.alloc(), &rt),
+    );
+    ExitCode::from(status)
+}
+
+/// Does what the words ask for over this outside, and gives the exit status of the answer. Where there
+/// are no words, it tells why.
+fn finish<S: Source, K: Sink, E: Sink, F: Folder>(
+    alloc: Global,
+    words: Result<Vec<String>, End>,
+    input: &mut S,
+    out: &mut K,
+    err: &mut E,
+    folder: &mut F,
+) -> u8
+    ensures { Finishes words
+        (record {
+          files = F.files folder.old;
+          output = K.written out.old;
+          errors = E.written err.old;
+          folder_faults = F.faults folder.old;
+          output_faults = K.faults out.old;
+          output_wants = K.wants out.old;
+          error_faults = E.faults err.old;
+          error_wants = E.wants err.old;
+        })
+        (record {
+          files = F.files folder.new;
+          output = K.written out.new;
+          errors = E.written err.new;
+          folder_faults = F.faults folder.new;
+          output_faults = K.faults out.new;
+          output_wants = K.wants out.new;
+          error_faults = E.faults err.new;
+          error_wants = E.wants err.new;
+        })
+        result input.old input.new out.old out.new err.old err.new folder.old folder.new }
+{
+    match words {
         Ok(words) => {
-            let mut input = StdSource::new(rt.stdin());
-            let mut out = StdSink::new(rt.stdout());
-            let mut folder = DirFolder::new(rt.alloc(), &rt);
-            perform(
-                rt.alloc(),
-                &words,
-                &mut input,
-                &mut out,
-                &mut err,
-                &mut folder,
-            )
+            let end = perform(alloc, &words, input, out, err, folder);
+            status_of(&end)
         }
         Err(end) => {
-            let _ = tell(&end, &mut err);
-            end
+            let _ = tell(&end, err);
+            status_of(&end)
         }
-    };
-    ExitCode::from(status_of(&end))
+    }
 }
 
 /// The words after the program's name.
-fn words(rt: &HostRuntime) -> Result<Vec<String>, End>
+fn words(alloc: Global, args: io::Result<Args>) -> Result<Vec<String>, End>
     ensures { IfErr result IsWordless }
 {
-    match env::args(rt) {
-        Ok(args) => Ok(args.skip(1).collect(rt.alloc())?),
+    match args {
+        Ok(args) => Ok(args.skip(1).collect(alloc)?),
         Err(error) => Err(wordless(&error)),
     }
 }
