@@ -3,6 +3,7 @@
 mod faults;
 mod forms;
 mod limits;
+mod loads;
 mod refusals;
 mod reports;
 mod statuses;
@@ -47,7 +48,7 @@ const NOT_FIRST: (&str, &str) = ("SourceRefused(NotFirst)", "cov: source: not fi
 
 /// What a call left: its answer as `Debug` prints it, its exit status, and what it wrote.
 #[derive(Drop)]
-struct Outcome {
+struct Answered {
     end: String,
     status: u8,
     out: String,
@@ -84,11 +85,11 @@ fn ask(
     out: &mut MemSink,
     err: &mut MemSink,
     folder: &mut MemFolder,
-) -> Result<Outcome, Fail> {
+) -> Result<Answered, Fail> {
     let words = words_in(alloc, words)?;
     let mut input = MemSource::new(Vec::new(alloc), Vec::new(alloc));
     let end = perform(alloc, &words, &mut input, out, err, folder);
-    Ok(Outcome {
+    Ok(Answered {
         end: format!(in alloc; "{end:?}")?,
         status: status_of(&end),
         out: text_of(alloc, out)?,
@@ -97,7 +98,7 @@ fn ask(
 }
 
 /// The top call on these words and files, without faults.
-fn cover(alloc: Global, words: &str, files: &[(&str, &[u8])]) -> Result<Outcome, Fail> {
+fn cover(alloc: Global, words: &str, files: &[(&str, &[u8])]) -> Result<Answered, Fail> {
     let mut folder = MemFolder::new(alloc, named(alloc, files)?, Vec::new(alloc));
     let mut out = MemSink::new(alloc, Vec::new(alloc));
     let mut err = MemSink::new(alloc, Vec::new(alloc));
@@ -105,23 +106,23 @@ fn cover(alloc: Global, words: &str, files: &[(&str, &[u8])]) -> Result<Outcome,
 }
 
 /// What `cover F.c aa.txt` leaves for this source and this input.
-fn run_on<'a>(alloc: Global, source: &'a str, input: &'a [u8]) -> Result<Outcome, Fail> {
+fn run_on<'a>(alloc: Global, source: &'a str, input: &'a [u8]) -> Result<Answered, Fail> {
     let files = [("F.c", source.as_bytes()), ("aa.txt", input)];
     cover(alloc, COVER, &files)
 }
 
 /// Asserts that a call on this did all that it does.
-fn assert_done(rt: &impl Abort, on: &str, outcome: &Outcome) {
-    assert_eq!(rt; outcome.end.as_str(), "Done", "on {on:?}");
-    assert_eq!(rt; outcome.status, 0);
-    assert_eq!(rt; outcome.err.as_str(), "", "on {on:?}");
+fn assert_done(rt: &impl Abort, on: &str, answered: &Answered) {
+    assert_eq!(rt; answered.end.as_str(), "Done", "on {on:?}");
+    assert_eq!(rt; answered.status, 0);
+    assert_eq!(rt; answered.err.as_str(), "", "on {on:?}");
 }
 
 /// Asserts that a call on this had this answer with its line, and wrote no output.
-fn assert_refused(rt: &impl Abort, on: &str, outcome: &Outcome, answer: (&str, &str)) {
+fn assert_refused(rt: &impl Abort, on: &str, answered: &Answered, answer: (&str, &str)) {
     let (end, line) = answer;
-    assert_eq!(rt; outcome.end.as_str(), end, "on {on:?}");
-    assert_eq!(rt; outcome.err.as_str(), line, "on {on:?}");
-    assert_eq!(rt; outcome.status, 120);
-    assert_eq!(rt; outcome.out.as_str(), "", "on {on:?}");
+    assert_eq!(rt; answered.end.as_str(), end, "on {on:?}");
+    assert_eq!(rt; answered.err.as_str(), line, "on {on:?}");
+    assert_eq!(rt; answered.status, 120);
+    assert_eq!(rt; answered.out.as_str(), "", "on {on:?}");
 }

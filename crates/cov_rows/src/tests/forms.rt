@@ -70,8 +70,8 @@ fn sources_of_other_forms_are_refused(rt: HostRuntime) -> Result<(), Fail> {
         "int main(void) {\nputchar('a');\n}\nreturn 0;\n}\n",
         "int main(void) {\nwhile (getchar() == 'a') {\n}\n}\nreturn 0;\n}\n",
     ] {
-        let outcome = run_on(rt.alloc(), source, b" ~")?;
-        assert_refused(&rt, source, &outcome, NOT_FIRST);
+        let answered = run_on(rt.alloc(), source, b" ~")?;
+        assert_refused(&rt, source, &answered, NOT_FIRST);
     }
     for (source, front) in [
         (
@@ -91,9 +91,9 @@ fn sources_of_other_forms_are_refused(rt: HostRuntime) -> Result<(), Fail> {
             "run aa.txt: returned 9, 1 bytes\n\"\n        -:    0:Source:F.c\n",
         ),
     ] {
-        let outcome = run_on(rt.alloc(), source, b" ~")?;
-        assert_done(&rt, source, &outcome);
-        assert!(rt; outcome.out.starts_with(front), "of {source:?}");
+        let answered = run_on(rt.alloc(), source, b" ~")?;
+        assert_done(&rt, source, &answered);
+        assert!(rt; answered.out.starts_with(front), "of {source:?}");
     }
     Ok(())
 }

@@ -50,9 +50,9 @@ fn a_full_output_stops_the_run_and_counts_nowhere(rt: HostRuntime) -> Result<(),
     ];
     for (count, front, end) in rows {
         let input = vec![in rt.alloc(); b'a'; count]?;
-        let outcome = run_on(rt.alloc(), COPIES, &input)?;
-        assert_done(&rt, front, &outcome);
-        let output = outcome
+        let answered = run_on(rt.alloc(), COPIES, &input)?;
+        assert_done(&rt, front, &answered);
+        let output = answered
             .out
             .strip_prefix(front)
             .and_then(|rest| rest.strip_suffix(end))
@@ -86,10 +86,10 @@ fn the_longest_source_is_covered(rt: HostRuntime) -> Result<(), Fail> {
     }
     source.push_str("while (getchar() == 'a') {\n}\nreturn 100;\n}\n")?;
     assert_eq!(rt; source.len(), 1_048_576);
-    let outcome = run_on(alloc, source.as_str(), b"aa")?;
-    assert_done(&rt, "the longest source", &outcome);
+    let answered = run_on(alloc, source.as_str(), b"aa")?;
+    assert_done(&rt, "the longest source", &answered);
     let front = "run aa.txt: returned 100, 74894 bytes\nbbb";
-    assert!(rt; outcome.out.starts_with(front));
+    assert!(rt; answered.out.starts_with(front));
     let end = "
         1:74895:putchar('b');
         3:74896:while (getchar() == 'a') {
@@ -97,6 +97,6 @@ fn the_longest_source_is_covered(rt: HostRuntime) -> Result<(), Fail> {
         1:74898:return 100;
         -:74899:}
 ";
-    assert!(rt; outcome.out.ends_with(end));
+    assert!(rt; answered.out.ends_with(end));
     Ok(())
 }

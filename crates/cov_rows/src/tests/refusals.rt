@@ -40,8 +40,8 @@ fn refusals_name_their_cause(rt: HostRuntime) -> Result<(), Fail> {
         ("cover F.c no.txt", &over, too_long),
     ];
     for (words, source, answer) in rows {
-        let outcome = cover(alloc, words, &[("F.c", source), ("aa.txt", b"aa")])?;
-        assert_refused(&rt, words, &outcome, answer);
+        let answered = cover(alloc, words, &[("F.c", source), ("aa.txt", b"aa")])?;
+        assert_refused(&rt, words, &answered, answer);
     }
     Ok(())
 }

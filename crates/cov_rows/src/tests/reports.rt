@@ -92,9 +92,9 @@ fn nested_loops_three_deep_count_each_line(rt: HostRuntime) -> Result<(), Fail> 
         -:   15:}
 ";
     let files: [(&str, &[u8]); 2] = [("nested.c", NESTED.as_bytes()), ("n.in", b"abccxbxxabx")];
-    let outcome = cover(rt.alloc(), "cover nested.c n.in", &files)?;
-    assert_done(&rt, "nested loops", &outcome);
-    assert_eq!(rt; outcome.out.as_str(), want);
+    let answered = cover(rt.alloc(), "cover nested.c n.in", &files)?;
+    assert_done(&rt, "nested loops", &answered);
+    assert_eq!(rt; answered.out.as_str(), want);
     Ok(())
 }
 
@@ -136,9 +136,9 @@ fn a_loop_never_entered_shows_never_run_lines(rt: HostRuntime) -> Result<(), Fai
 "
         )?;
         let files = [("loops.c", PASSED.as_bytes()), ("e", input.as_bytes())];
-        let outcome = cover(rt.alloc(), "cover loops.c e", &files)?;
-        assert_done(&rt, input, &outcome);
-        assert_eq!(rt; outcome.out.as_str(), want.as_str(), "on {input:?}");
+        let answered = cover(rt.alloc(), "cover loops.c e", &files)?;
+        assert_done(&rt, input, &answered);
+        assert_eq!(rt; answered.out.as_str(), want.as_str(), "on {input:?}");
     }
     Ok(())
 }
