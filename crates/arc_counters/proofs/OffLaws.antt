@@ -94,4 +94,4 @@ off_of net came arcs offs tree same found =
 pub off_determine : (net : NetValue) → IsNet net → Determine (off net) net
 off_determine net is xs ys x y same =
     (one_circulation net is xs ys x y (λ i within other.
-      same i (off_contains (arrivals net) 0 (length net.arcs) i (omega arith) (omega (arith, within)) other))).0
+    same i (off_contains (arrivals net) 0 (length net.arcs) i (omega arith) (omega (arith, within)) other))).0

@@ -17,12 +17,12 @@ ghost use Rattle.cov_outside.specs.Stores.{Numbered, new_log, wants_after};
 use crate::calls::Calls;
 use crate::faults::{Failed, LoadFault, SinkFault};
 use crate::folder::Folder;
-use crate::written_bytes::WrittenBytes;
-use crate::remaining_bytes::RemainingBytes;
 use crate::named_files::NamedFiles;
+use crate::remaining_bytes::RemainingBytes;
 use crate::sink::Sink;
 use crate::source::Source;
 use crate::wants::Wants;
+use crate::written_bytes::WrittenBytes;
 use std::alloc::Global;
 
 /// Bytes in memory. Each read takes all that fits.

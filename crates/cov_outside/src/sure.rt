@@ -5,12 +5,12 @@ ghost use Rattle.cov_outside.specs.Stores.{wants_after};
 
 use crate::faults::{Failed, LoadFault, SinkFault};
 use crate::folder::Folder;
-use crate::written_bytes::WrittenBytes;
-use crate::remaining_bytes::RemainingBytes;
 use crate::named_files::NamedFiles;
+use crate::remaining_bytes::RemainingBytes;
 use crate::sink::Sink;
 use crate::source::Source;
 use crate::wants::Wants;
+use crate::written_bytes::WrittenBytes;
 use std::alloc::Global;
 
 /// Bytes in memory. No read fails.

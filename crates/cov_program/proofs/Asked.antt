@@ -13,7 +13,9 @@ one_asked words s i fact is holds (Cover s' i') asks = subst fact (ap₂ Cover f
   where
     same : codes "cover" ∷ s ∷ i ∷ [] ≡ codes "cover" ∷ s' ∷ i' ∷ []
     same = sym is.three ∙ asks.three
+
     first : s ≡ s'
     first = ap (λ xs. get_or xs 1 []) same
+
     second : i ≡ i'
     second = ap (λ xs. get_or xs 2 []) same

@@ -45,7 +45,7 @@ pub fn text(
     requires { length source.now ≤ source_limit }
     ensures { IfOk result (λ text. text.items
         ≡ run_text names.entry.input.now
-            (record { output = run.now.output.items; outcome = outcome_of run.now.outcome })
+        (record { output = run.now.output.items; outcome = outcome_of run.now.outcome })
         ++ (head_text names.entry.stem.now (closed_runs (outcome_of run.now.outcome))
         ++ report_lines (count_at counts.now) 1 (lines_in source.now))) }
 {

@@ -37,8 +37,8 @@ ghost use Rattle.cov_program.specs.Advance.{
   tested,
 };
 
-use crate::outcome::Outcome;
 use crate::graph::{Block, Exit, Put};
+use crate::outcome::Outcome;
 use cov_base::OUTPUT_LIMIT;
 use std::alloc::{AllocError, Global};
 use std::marker::Model;

@@ -15,8 +15,9 @@ use Rattle.net_rows.specs.WellMade.{is_later, block_made, graph_made}
 among_all : (p : ℕ → Bool) (ts : List ℕ) (t : ℕ) → list_all p ts ≡ true → among t ts ≡ true → p t ≡ true
 among_all p [] t all m = absurd (cc)
 among_all p (x ∷ ts) t all m = elim (or_cases (t == x) (among t ts) m) [
-    | inl here ↦ subst (λ y. p y ≡ true) (sym (eqb-true t x here)) (and_parts _ _ all).0
-    | inr later ↦ among_all p ts t (and_parts _ _ all).1 later ]
+  | inl here ↦ subst (λ y. p y ≡ true) (sym (eqb-true t x here)) (and_parts _ _ all).0
+  | inr later ↦ among_all p ts t (and_parts _ _ all).1 later
+]
 
 at_all : {X : Type 0} (p : X → Bool) (xs : List X) (k : ℕ) (x : X) → list_all p xs ≡ true → slice_get xs k ≡ Some x
     → p x ≡ true
@@ -35,9 +36,9 @@ graph_is_made : (g : Graph) → graph_made g ≡ true → IsWellMade g
 graph_is_made g made = record {
   some = ltb-true 0 (length g.blocks) (and_parts _ _ made).0;
   aims = λ k t b at m.
-    let block = at_all (block_made (length g.blocks)) g.blocks k b (and_parts _ _ made).1 at in
-    let later = among_all (is_later (length g.blocks)) (targets b.end) t (and_parts _ _ block).0 m in
-    (ltb-true 2 t (and_parts _ _ later).0, ltb-true t (2 + length g.blocks) (and_parts _ _ later).1);
+      let block = at_all (block_made (length g.blocks)) g.blocks k b (and_parts _ _ made).1 at in
+      let later = among_all (is_later (length g.blocks)) (targets b.end) t (and_parts _ _ block).0 m in
+      (ltb-true 2 t (and_parts _ _ later).0, ltb-true t (2 + length g.blocks) (and_parts _ _ later).1);
   lines = lines_ascend (length g.blocks) g.blocks (and_parts _ _ made).1;
 }
 

@@ -54,7 +54,11 @@ fn shown(alloc: Global, net: &Net) -> Result<String, Fail> {
     let mut counters = String::new(alloc);
     let mut index = 0u32;
     for arc in net.arcs() {
-        let mark = if arc.kind == ArcKind::CallExit { "x" } else { "" };
+        let mark = if arc.kind == ArcKind::CallExit {
+            "x"
+        } else {
+            ""
+        };
         text.push_str(format!(in alloc; "{}-{}{mark} ", arc.from, arc.to)?.as_str())?;
         if let Some(counter) = plan.counter(index) {
             counters.push_str(format!(in alloc; " {counter}:{}-{}", arc.from, arc.to)?.as_str())?;

@@ -18,8 +18,8 @@ agrees_pruned source input turns a = record {
   walked = renamed_walked u a.walked;
   comes = run_there u (pruned u) (keeps_runs u) input turns a.walked a.comes;
   alone = λ other run.
-    let old = run_back u (pruned u) (keeps_runs u) input turns other run in
-    old.2 ∙ ap (renamed_walked u) (a.alone old.0 old.1);
+      let old = run_back u (pruned u) (keeps_runs u) input turns other run in
+      old.2 ∙ ap (renamed_walked u) (a.alone old.0 old.1);
   output = a.output;
   ending = a.ending;
 }

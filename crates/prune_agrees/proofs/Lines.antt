@@ -110,59 +110,67 @@ mutual
   kind_lined s (TypedKind.Minus e) b line m a h = plain_lined _ (λ rest l. (lined s e (suc m) h.2).value _ (tt, l))
   kind_lined s (TypedKind.Complement e) b line m a h = plain_lined _ (λ rest l. (lined s e (suc m) h.2).value _ (tt, l))
   kind_lined s (TypedKind.Not e) b line m a h =
-      record { value = λ rest l. (lined s e (suc m) h.3).value _ (tt, l); test =
-          λ t f rest l. (lined s e (suc m) h.3).test f t rest l }
+      record {
+        value = λ rest l. (lined s e (suc m) h.3).value _ (tt, l);
+        test =
+            λ t f rest l. (lined s e (suc m) h.3).test f t rest l;
+      }
   kind_lined s (TypedKind.Cast to e) b line m a h =
       plain_lined _ (λ rest l. (lined s e (suc m) h.3).value _ (cast_lined (base_of e) to rest l))
   kind_lined s (TypedKind.Binary o x y) b line m a h =
       plain_lined _ (λ rest l. (lined s x (suc m) h.1).value _ ((lined s y (suc m + nodes x) h.2).value _ (tt, l)))
   kind_lined s (TypedKind.AndAlso x y) b line m a h =
       logic_lined m line _ a (λ t f rest l. (lined s x (suc m) h.5).test _ f _
-          (a, (lined s y (suc m + nodes x) h.6).test t f rest l))
+      (a, (lined s y (suc m + nodes x) h.6).test t f rest l))
   kind_lined s (TypedKind.OrElse x y) b line m a h =
       logic_lined m line _ a (λ t f rest l. (lined s x (suc m) h.5).test t _ _
-          (a, (lined s y (suc m + nodes x) h.6).test t f rest l))
+      (a, (lined s y (suc m + nodes x) h.6).test t f rest l))
   kind_lined s (TypedKind.Choose c x y) b line m a h =
       plain_lined _
-          (λ rest l. (lined s c (suc m) h.5).test _ _ _
-          (a, (lined s x (suc m + nodes c) h.6).value _
-          (tt, (a, (lined s y (suc m + nodes c + nodes x) h.7).value _ (a, l)))))
+      (λ rest l. (lined s c (suc m) h.5).test _ _ _ (
+        a,
+        (lined s x (suc m + nodes c) h.6).value _
+            (tt, (a, (lined s y (suc m + nodes c + nodes x) h.7).value _ (a, l))),
+      ))
   kind_lined s (TypedKind.Assign None target e) b line m a h =
       plain_lined _
-          (λ rest l. index_lined s target (suc m) _ h.3
-          ((lined s e (suc m + nodes target) h.4).value _ (named_lined s target h.3, l)))
+      (λ rest l. index_lined s target (suc m) _ h.3
+      ((lined s e (suc m + nodes target) h.4).value _ (named_lined s target h.3, l)))
   kind_lined s (TypedKind.Assign (Some o) target e) b line m a h =
       let t = type_in b in let c = changing (class o) t (type_in (base_of e)) in
       plain_lined _ (λ rest l.
-        let stored : List Item = plainly (stores target) rest in
-        let done : List Item = plainly (operator o c line) (converted c t stored) in
-        let valued : List Item = (ways e (suc m + nodes target)).value done in
-        index_lined s target (suc m) _ h.3
-            (kept_lined target (Do (loads target) (Some (named_on target)) ∷ converted t c valued)
-            (named_lined s target h.3, converted_lined t c valued
-        ((lined s e (suc m + nodes target) h.4).value done (tt, converted_lined c t stored (tt, l))))))
+      let stored : List Item = plainly (stores target) rest in
+      let done : List Item = plainly (operator o c line) (converted c t stored) in
+      let valued : List Item = (ways e (suc m + nodes target)).value done in
+      index_lined s target (suc m) _ h.3
+      (kept_lined target (Do (loads target) (Some (named_on target)) ∷ converted t c valued) (
+        named_lined s target h.3,
+        converted_lined t c valued
+            ((lined s e (suc m + nodes target) h.4).value done (tt, converted_lined c t stored (tt, l))),
+      )))
   kind_lined s (TypedKind.Before o target) b line m a h =
       let t = type_in b in let c = common_type t type.Int in
       plain_lined _ (λ rest l.
-        let stored : List Item = plainly (stores target) rest in
-        let done : List Item = plainly (op.Push (pos 1)) (plainly (operator o c line) (converted c t stored)) in
-        index_lined s target (suc m) _ h.3
-            (kept_lined target (Do (loads target) (Some (named_on target)) ∷ converted t c done)
-            (named_lined s target h.3, converted_lined t c done (tt, (tt, converted_lined c t stored (tt, l))))))
+      let stored : List Item = plainly (stores target) rest in
+      let done : List Item = plainly (op.Push (pos 1)) (plainly (operator o c line) (converted c t stored)) in
+      index_lined s target (suc m) _ h.3
+      (kept_lined target (Do (loads target) (Some (named_on target)) ∷ converted t c done)
+      (named_lined s target h.3, converted_lined t c done (tt, (tt, converted_lined c t stored (tt, l))))))
   kind_lined s (TypedKind.After o target) b line m a h =
       let t = type_in b in let c = common_type t type.Int in
       plain_lined _ (λ rest l.
-        let stored : List Item = plainly (stores target) (plainly op.Drop rest) in
-        let done : List Item = plainly (op.Push (pos 1)) (plainly (operator o c line) (converted c t stored)) in
-        index_lined s target (suc m) _ h.3
-            (kept_lined target (Do (loads target) (Some (named_on target)) ∷ doubled target (converted t c done))
-            (named_lined s target h.3,
+      let stored : List Item = plainly (stores target) (plainly op.Drop rest) in
+      let done : List Item = plainly (op.Push (pos 1)) (plainly (operator o c line) (converted c t stored)) in
+      index_lined s target (suc m) _ h.3
+      (kept_lined target (Do (loads target) (Some (named_on target)) ∷ doubled target (converted t c done)) (
+        named_lined s target h.3,
         doubled_lined target (converted t c done)
-            (converted_lined t c done (tt, (tt, converted_lined c t stored (tt, (tt, l))))))))
+            (converted_lined t c done (tt, (tt, converted_lined c t stored (tt, (tt, l))))),
+      )))
   kind_lined s (TypedKind.Comma x y) b line m a h =
       plain_lined _
-          (λ rest l. (lined s x (suc m) h.3).value _
-          (dropped_lined (base_of x) _ ((lined s y (suc m + nodes x) h.4).value _ l)))
+      (λ rest l. (lined s x (suc m) h.3).value _
+      (dropped_lined (base_of x) _ ((lined s y (suc m + nodes x) h.4).value _ l)))
 
   index_lined : (s : Scope) (e : TypedExpr) (m : ℕ) (rest : List Item) → SoundExpr s e → Lined rest
       → Lined (index_of e m rest)
@@ -206,7 +214,7 @@ declarations_lined : (s : Scope) (vs : List TypedVar) (m : ℕ) (rest : List Ite
 declarations_lined s [] m rest h l = l
 declarations_lined s (v ∷ vs) m rest h l =
     initialised_lined (with_one s v) v v.init m _ h.0.line.first h.0.init
-        (declarations_lined (with_one s v) vs (m + init_nodes v.init) rest h.1 l)
+    (declarations_lined (with_one s v) vs (m + init_nodes v.init) rest h.1 l)
 
 labelled_lined : (g : Option Name) (m : ℕ) (rest : List Item) → Lined rest → Lined (labelled g m rest)
 labelled_lined None m rest l = (tt, l)
@@ -237,20 +245,26 @@ mutual
   code_lined s i (TypedStmt.If c a OtherTyped.Nothing) m b k rest h l =
       (lined s c (suc m) h.0.2).test _ _ _ (tt, code_lined s i a (suc m + nodes c) b k _ h.1 (tt, l))
   code_lined s i (TypedStmt.If c a (OtherTyped.There t)) m b k rest h l =
-      (lined s c (suc m) h.0.2).test _ _ _
-        (tt, code_lined s i a (suc m + nodes c) b k _ h.1
-        (tt, (tt, code_lined s i t (suc m + nodes c + stmt_nodes a) b k _ h.2 (tt, l))))
+      (lined s c (suc m) h.0.2).test _ _ _ (
+        tt,
+        code_lined s i a (suc m + nodes c) b k _ h.1
+            (tt, (tt, code_lined s i t (suc m + nodes c + stmt_nodes a) b k _ h.2 (tt, l))),
+      )
   code_lined s i (TypedStmt.While c a) m b k rest h l =
       (tt, (lined s c (suc m) h.0.2).test _ _ _ (tt, code_lined s _ a (suc m + nodes c) _ _ _ h.1 (tt, (tt, l))))
-  code_lined s i (TypedStmt.DoWhile a c line) m b k rest h l =
-      (tt, code_lined s _ a (suc m) _ _ _ h.0
-        (tt, (lined s c (suc m + stmt_nodes a) h.1.2).test _ _ _ (h.2.first, (tt, (tt, l)))))
+  code_lined s i (TypedStmt.DoWhile a c line) m b k rest h l = (
+    tt,
+    code_lined s _ a (suc m) _ _ _ h.0
+        (tt, (lined s c (suc m + stmt_nodes a) h.1.2).test _ _ _ (h.2.first, (tt, (tt, l)))),
+  )
   code_lined s i (TypedStmt.For (TypedForHead.Head first test step) a) m b k rest h l =
-      other_lined s i first (suc m) b k _ h.0.1
-          (tt, tested_lined (behind_first s first) test (suc m + other_nodes first) _ _ _ h.0.2
-      (code_lined (behind_first s first) _ a (suc m + other_nodes first + nodes_if test) _ _ _ h.1
-      (stepped_lined (behind_first s first) step (suc m + other_nodes first + nodes_if test + stmt_nodes a) _ _ h.0.3
-        (tt, (tt, l)))))
+      other_lined s i first (suc m) b k _ h.0.1 (
+        tt,
+        tested_lined (behind_first s first) test (suc m + other_nodes first) _ _ _ h.0.2
+            (code_lined (behind_first s first) _ a (suc m + other_nodes first + nodes_if test) _ _ _ h.1
+            (stepped_lined (behind_first s first) step (suc m + other_nodes first + nodes_if test + stmt_nodes a) _ _ h.0.3
+            (tt, (tt, l)))),
+      )
   code_lined s i (TypedStmt.Switch e is) m b k rest h l =
       (lined s e (suc m) h.1).value _ (tt, items_lined s _ (base_of e) is (suc m + nodes e) None _ k _ h.4 (tt, l))
   code_lined s i (TypedStmt.Break place line) m b k rest h l = (h.1.first, l)
@@ -335,5 +349,5 @@ pub lowered_lines : (s : Scope) (i : Inside) (f : TypedFunction) → IsLine f.li
     → All (λ b. ascends 0 b.lines ≡ true) (graph_of f).blocks
 lowered_lines s i f line body =
     blocks_ascend (number_from 2 (named_blocks f)) (named_blocks f)
-        (begun_ascend None (Some f.line) (opened (gives_number f.result) (items_of f)) line.first
-          (opened_ascend (gives_number f.result) (items_of f) (codes_lined s i f.body 0 Leave Leave [] body tt)))
+    (begun_ascend None (Some f.line) (opened (gives_number f.result) (items_of f)) line.first
+    (opened_ascend (gives_number f.result) (items_of f) (codes_lined s i f.body 0 Leave Leave [] body tt)))

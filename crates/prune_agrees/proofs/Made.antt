@@ -23,10 +23,10 @@ function_made source sound k f at =
     let own = each_at _ source.functions k f sound.functions at in record {
       some = omega arith;
       aims = λ place target block there among.
-        let later = targets_stand source (graph_of f) block
-            (record { function = k; graph = graph_found source.functions k f at; place = place; block = there })
-            target among in
-        (later.above, later.below);
+          let later = targets_stand source (graph_of f) block
+          (record { function = k; graph = graph_found source.functions k f at; place = place; block = there })
+          target among in
+          (later.above, later.below);
       lines = lowered_lines _ _ f own.line own.body;
     }
 

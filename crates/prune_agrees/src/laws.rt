@@ -9,5 +9,4 @@ ghost use Rattle.prune_agrees.specs.Joined.{EachSourceAgrees, EachGraphIsWellMad
 pub fn agreement()
     ensures agrees { EachSourceAgrees }
     ensures made { EachGraphIsWellMade }
-{
-}
+{}

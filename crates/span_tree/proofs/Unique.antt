@@ -70,7 +70,7 @@ inner_more arcs before a inner came i arc linked at =
     elim (or_cases (is_linked before i) (is_linked (a ∷ []) i) (sym (is_linked_append before (a ∷ []) i) ∙ linked)) [
       | inl old ↦
           (let h = inner i arc old at in
-            (there_more before (a ∷ []) arc.from h.0, there_more before (a ∷ []) arc.to h.1))
+          (there_more before (a ∷ []) arc.from h.0, there_more before (a ∷ []) arc.to h.1))
       | inr new ↦ by a.link came (elim (or_cases (is_link a.link i) false new) [ inl h ↦ h | inr never ↦ absurd (cc) ])
     ]
   where

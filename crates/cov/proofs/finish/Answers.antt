@@ -9,9 +9,12 @@ returns-in-Ok g c =
 
 pub returns-in-Err : goal.returns-in-Err
 returns-in-Err g c =
-    rw c.in-Err.is (c.status_of-in-Err.ensures, record {
-      line = told_of _ _ _ _ _ _ c.tell.ensures.cause.risen c.tell.ensures.want.risen c.tell.ensures.line;
-      input_stands = refl;
-      output_stands = refl;
-      folder_stands = refl;
-    })
+    rw c.in-Err.is (
+      c.status_of-in-Err.ensures,
+      record {
+        line = told_of _ _ _ _ _ _ c.tell.ensures.cause.risen c.tell.ensures.want.risen c.tell.ensures.line;
+        input_stands = refl;
+        output_stands = refl;
+        folder_stands = refl;
+      },
+    )

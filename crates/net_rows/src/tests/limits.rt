@@ -30,7 +30,11 @@ fn switch(alloc: Global, cases: u32) -> Result<GraphUnit, AllocError>
 #[test]
 fn function_has_512_blocks_and_not_513(rt: HostRuntime) -> Result<(), Fail> {
     assert_size(&rt, &switch(rt.alloc(), 508)?, None)?;
-    assert_size(&rt, &switch(rt.alloc(), 509)?, Some(SizeFault::TooManyBlocks(0, 513)))
+    assert_size(
+        &rt,
+        &switch(rt.alloc(), 509)?,
+        Some(SizeFault::TooManyBlocks(0, 513)),
+    )
 }
 
 /// The ending of a block of a graph of 510 blocks: 448 of them lead to nine others, then so many to
@@ -71,7 +75,11 @@ fn dense(alloc: Global, twos: u32) -> Result<GraphUnit, AllocError>
 #[test]
 fn function_has_4096_arcs_and_not_4097(rt: HostRuntime) -> Result<(), Fail> {
     assert_size(&rt, &dense(rt.alloc(), 1)?, None)?;
-    assert_size(&rt, &dense(rt.alloc(), 2)?, Some(SizeFault::TooManyArcs(0, 4097)))
+    assert_size(
+        &rt,
+        &dense(rt.alloc(), 2)?,
+        Some(SizeFault::TooManyArcs(0, 4097)),
+    )
 }
 
 /// One block with so many operations; its size is 17 more.
@@ -94,5 +102,9 @@ fn long(alloc: Global, count: u32) -> Result<GraphUnit, AllocError>
 #[test]
 fn unit_has_a_size_of_1048576_and_not_1048577(rt: HostRuntime) -> Result<(), Fail> {
     assert_size(&rt, &long(rt.alloc(), 1_048_559)?, None)?;
-    assert_size(&rt, &long(rt.alloc(), 1_048_560)?, Some(SizeFault::UnitTooLarge(1_048_577)))
+    assert_size(
+        &rt,
+        &long(rt.alloc(), 1_048_560)?,
+        Some(SizeFault::UnitTooLarge(1_048_577)),
+    )
 }

@@ -13,7 +13,11 @@ fn loop_has_its_blocks_in_order_of_arrival(rt: HostRuntime) -> Result<(), Fail> 
     blocks.push(block(alloc, Ending::Back(3), &[4])?)?;
     blocks.push(block(alloc, Ending::Return, &[5])?)?;
     let unit = unit_with(alloc, blocks)?;
-    assert_net(&rt, &unit, "0-2 2-3 3-4 3-5 4-3 5-1 | 1 0 5 2 3 4 | 0:2-3 1:4-3")
+    assert_net(
+        &rt,
+        &unit,
+        "0-2 2-3 3-4 3-5 4-3 5-1 | 1 0 5 2 3 4 | 0:2-3 1:4-3",
+    )
 }
 
 #[test]
@@ -73,5 +77,9 @@ fn numbers_close_up_and_two_cases_share_an_arc(rt: HostRuntime) -> Result<(), Fa
     blocks.push(block(alloc, Ending::Exit, &[4])?)?;
     blocks.push(block(alloc, Ending::Return, &[5])?)?;
     let unit = unit_with(alloc, blocks)?;
-    assert_net(&rt, &unit, "0-2 2-3 3-4 3-5 4-1x 5-1 | 1 0 4 5 2 3 | 0:2-3 1:3-5")
+    assert_net(
+        &rt,
+        &unit,
+        "0-2 2-3 3-4 3-5 4-1x 5-1 | 1 0 4 5 2 3 | 0:2-3 1:3-5",
+    )
 }

@@ -25,12 +25,12 @@ pub returns-clause-many : goal.returns-clause-many
 returns-clause-many c =
     subst (λ (p : List ℕ). length p + c.args.net.now.blocks ≡ length c.args.net.now.arcs + 2)
     (sym (off_of c.args.net.now c.args.tree.now c.arcs-arcs.result.now c.in_ok-off.off.items c.requires
-      c.arcs-arcs.ensures.value c.in_ok-off.ensures.off))
+    c.arcs-arcs.ensures.value c.in_ok-off.ensures.off))
     (off_length c.args.net.now c.arcs-arcs.ensures.net)
 
 pub returns-clause-determine : goal.returns-clause-determine
 returns-clause-determine c =
     subst (λ p. Determine p c.args.net.now)
     (sym (off_of c.args.net.now c.args.tree.now c.arcs-arcs.result.now c.in_ok-off.off.items c.requires
-      c.arcs-arcs.ensures.value c.in_ok-off.ensures.off))
+    c.arcs-arcs.ensures.value c.in_ok-off.ensures.off))
     (off_determine c.args.net.now c.arcs-arcs.ensures.net)
