@@ -20,13 +20,13 @@ MOST = 1_048_576
 MAIN_RT = """//! Scans its standard input.
 #![tactic(auto)]
 
-use c_tokens::{MOST_BYTES, scan};
-use cov_base::Refusal;
+use c_tokens::scan;
+use cov_base::{Refusal, SOURCE_LIMIT};
 use std::io;
 
 fn main(rt: HostRuntime) -> io::Result<()> {
     let text = io::read_to_string(rt.alloc(), rt.stdin())?;
-    if text.len() > MOST_BYTES {
+    if text.len() > SOURCE_LIMIT {
         return println!(rt; "too long");
     }
     match scan(rt.alloc(), text.as_bytes()) {

@@ -7,3 +7,4 @@ mod Rows
 pub mod ScanLaws
 pub mod SpanLaws
 pub mod TextLaws
+pub mod NameLaws

@@ -4,6 +4,7 @@ pub mod Finds
 pub mod Items
 pub mod Literals
 pub mod Marks
+pub mod Names
 pub mod Reading
 pub mod Scans
 pub mod Spans

@@ -11,7 +11,9 @@ ghost use Rattle.std.specs.Prelude.{
   map,
   IfSome,
   MatchOption,
+  nat_eq,
 };
+ghost use Rattle.std.specs.List.{starts_with};
 ghost use Rattle.c_tokens.specs.Marks.{BeginsMark, IsLongestMark, first_mark};
 ghost use Rattle.c_tokens.specs.Words as spec;
 
@@ -166,13 +168,27 @@ pub fn longest_mark(text: &[u8]) -> Option<(usize, Punct)>
     first_mark(&MARKS, text)
 }
 
+/// Whether the text begins with a spelling. Most spellings differ from it in the first byte.
+#[inline]
+fn begins(text: &[u8], spelling: &[u8]) -> bool
+    ensures { result ≡ starts_with nat_eq text.now spelling.now }
+{
+    if let Some((first, _)) = text.split_first()
+        && let Some((other, _)) = spelling.split_first()
+        && first != other
+    {
+        return false;
+    }
+    text.starts_with(spelling)
+}
+
 /// The first mark of a table that the text begins with, and its length.
 fn first_mark(table: &[(&[u8], Punct)], text: &[u8]) -> Option<(usize, Punct)>
     ensures value { result ≡ first_mark (map (λ m. (m.0.now, m.1)) table.entry.now) text.now }
     ensures within { IfSome result (λ found. found.0 ≤ length text.now) }
 {
     for (spelling, mark) in table {
-        if text.starts_with(spelling) {
+        if begins(text, spelling) {
             return Some((spelling.len(), *mark));
         }
     }
