@@ -136,8 +136,8 @@ impl Numbers {
     ) -> Result<(), AllocError>
         requires len { length self.now ≡ length blocks.now }
         requires within { place < length blocks.now }
-        ensures { OnOk result (kept.new.items ≡ kept.old.items
-            ++ kept_here (number_by self.now) (get_or self.now place false) (slice_get blocks.now place)) }
+        ensures { OnOk result (kept.new.items ≡ kept.old.items ++ kept_here
+            (number_by self.now) (get_or self.now place false) (slice_get blocks.now place)) }
     {
         let marks = self.marks.as_slice();
         if !marks[place] {

@@ -11,8 +11,8 @@ use fake_arcs::targets_of;
 use flow_graph::{Block, Ending, Graph, GraphUnit};
 use std::alloc::{AllocError, Global};
 
-/// Whether each graph has a block, endings that lead to blocks behind block 2, and lines that ascend
-/// from above 0.
+/// Whether each graph has a block, endings that lead to blocks behind block 2, and lines that
+/// ascend from above 0.
 pub fn is_well_made(alloc: Global, unit: &GraphUnit) -> Result<bool, AllocError>
     ensures { IfOk result (λ made. made ≡ unit_made unit.now) }
 {
@@ -49,7 +49,8 @@ fn are_blocks_made(alloc: Global, count: usize, blocks: &[Block]) -> Result<bool
 }
 
 fn leads_later(alloc: Global, count: usize, end: &Ending) -> Result<bool, AllocError>
-    ensures { IfOk result (λ made. made ≡ list_all (is_later count) (targets (ending_view end.now))) }
+    ensures { IfOk result
+        (λ made. made ≡ list_all (is_later count) (targets (ending_view end.now))) }
 {
     let found = targets_of(alloc, end)?;
     for target in &found {

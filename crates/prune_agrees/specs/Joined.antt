@@ -9,8 +9,8 @@ use Rattle.flow_graph.specs.Nets.{pruned}
 use Rattle.flow_graph.specs.WalkRun.{Walked, WalkRun}
 use Rattle.fake_arcs.specs.Tidy.{IsWellMade}
 
--- On this input and with so many turns, the run of a source's pruned graphs comes to exactly one outcome, and its output
--- and ending are those of the source's meaning.
+-- On this input and with so many turns, the run of a source's pruned graphs comes to exactly one outcome, and its
+-- output and ending are those of the source's meaning.
 pub record PrunedAgrees (source : Typed) (input : List ℕ) (turns : ℕ) : Type 0 where
   pub walked : Walked
   pub comes : WalkRun (pruned (unit_of source)) input turns walked
