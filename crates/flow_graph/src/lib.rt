@@ -4,6 +4,7 @@
 
 pub mod graph;
 mod laws;
+pub mod lines;
 
 pub use graph::{Block, Ending, Graph, GraphUnit};
 pub use laws::closed_walks;
