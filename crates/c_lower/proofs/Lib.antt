@@ -1,3 +1,5 @@
+pub mod AddedLines
+pub mod MadeLaws
 mod ExpressionRuns
 mod GraphRows
 pub mod NameLaws

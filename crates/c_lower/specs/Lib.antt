@@ -1,3 +1,5 @@
+pub mod Building
+pub mod CloseView
 pub mod Items
 pub mod Laws
 pub mod Lowered

@@ -1,0 +1,169 @@
+//! Blocks in the making: items are put behind one another, and each names a block, an operation or an ending.
+
+ghost use Rattle.std.specs.Prelude.{◌≡◌, Bool, List, [], ◌∷◌, ◌++◌, true, false, cond, Option, Some, None, OnOk};
+ghost use Rattle.c_lower.specs.Items.{Item};
+ghost use Rattle.c_lower.specs.Items as items;
+ghost use Rattle.c_lower.specs.CloseView.{close_view};
+ghost use Rattle.c_lower.specs.Building.{Puts, after, open_with, close_with, ready, with_op_of, with_line_of, ends_shut, jumped};
+
+use flow_graph::lines::Lines;
+use crate::named::{Close, Label, NamedBlock};
+use stack_ops::Op;
+use std::alloc::{AllocError, Global};
+use std::marker::Model;
+use std::mem;
+
+/// Blocks that have ended, and one that may be open.
+#[derive(Debug, Drop)]
+pub struct Blocks {
+    alloc: Global,
+    done: Vec<NamedBlock>,
+    is_open: bool,
+    name: Option<Label>,
+    ops: Vec<Op>,
+    lines: Lines,
+}
+
+impl Model for Blocks {
+    ghost use Rattle.c_lower.specs.Building.{Making};
+
+    ghost Value = { Making };
+
+    ghost view = { λ b. record {
+      done = b.done.items;
+      is_open = b.is_open;
+      name = b.name;
+      ops = b.ops.items;
+      lines = b.lines;
+    } };
+}
+
+impl Blocks {
+    /// No blocks; none is open.
+    pub fn new(alloc: Global) -> Blocks
+        ensures { result ≡ record { done = []; is_open = false; name = None; ops = []; lines = [] } }
+    {
+        Blocks {
+            alloc,
+            done: Vec::new(alloc),
+            is_open: false,
+            name: None,
+            ops: Vec::new(alloc),
+            lines: Lines::new(alloc),
+        }
+    }
+
+    fn open(&mut self, name: Option<Label>)
+        ensures { self.new ≡ open_with name self.old }
+    {
+        self.is_open = true;
+        self.name = name;
+        self.ops = Vec::new(self.alloc);
+        self.lines = Lines::new(self.alloc);
+    }
+
+    fn close(&mut self, close: Close) -> Result<(), AllocError>
+        ensures { OnOk result (self.new ≡ close_with (close_view close) self.old) }
+    {
+        let ops = mem::replace(&mut self.ops, Vec::new(self.alloc));
+        let lines = mem::replace(&mut self.lines, Lines::new(self.alloc));
+        self.done.push(NamedBlock {
+            name: self.name,
+            ops,
+            close,
+            lines,
+        })?;
+        self.is_open = false;
+        self.name = None;
+        Ok(())
+    }
+
+    fn note(&mut self, line: Option<u32>) -> Result<(), AllocError>
+        ensures { OnOk result (self.new ≡ with_line_of line self.old) }
+    {
+        match line {
+            Some(line) => self.lines.add(line),
+            None => Ok(()),
+        }
+    }
+
+    fn make_ready(&mut self)
+        ensures { self.new ≡ ready self.old }
+    {
+        if !self.is_open {
+            self.open(None);
+        }
+    }
+
+    fn jump(&mut self, label: Label) -> Result<(), AllocError>
+        ensures { OnOk result (self.new ≡ jumped label self.old) }
+    {
+        if self.is_open {
+            self.close(Close::Jump(label))?;
+        }
+        Ok(())
+    }
+
+    fn begin_exactly(&mut self, label: Label, line: Option<u32>) -> Result<(), AllocError>
+        ensures { OnOk result (self.new ≡ after (Item.Begin label line) self.old) }
+    {
+        self.jump(label)?;
+        self.open(Some(label));
+        self.note(line)
+    }
+
+    fn put_exactly(&mut self, op: Op, line: Option<u32>) -> Result<(), AllocError>
+        ensures { OnOk result (self.new ≡ after (Item.Do op line) self.old) }
+    {
+        self.make_ready();
+        self.ops.push(op)?;
+        self.note(line)
+    }
+
+    fn end_shut(&mut self, close: Close, line: Option<u32>) -> Result<(), AllocError>
+        ensures { OnOk result (self.new ≡ ends_shut (close_view close) line self.old) }
+    {
+        match close {
+            Close::Jump(_) | Close::Back(_) => Ok(()),
+            close => {
+                self.open(None);
+                self.note(line)?;
+                self.close(close)
+            }
+        }
+    }
+
+    fn end_exactly(&mut self, close: Close, line: Option<u32>) -> Result<(), AllocError>
+        ensures { OnOk result (self.new ≡ after (Item.End (close_view close) line) self.old) }
+    {
+        if self.is_open {
+            self.note(line)?;
+            return self.close(close);
+        }
+        self.end_shut(close, line)
+    }
+
+    /// A block begins. One that is still open jumps to it.
+    #[tactic(auto, using(crate::proofs::MadeLaws::puts_item))]
+    pub fn begin(&mut self, label: Label, line: Option<u32>) -> Result<(), AllocError>
+        ensures { OnOk result (Puts self.old self.new (λ rest. Item.Begin label line ∷ rest)) }
+    {
+        self.begin_exactly(label, line)
+    }
+
+    /// An operation. Behind a closed block it begins one that nothing enters.
+    #[tactic(auto, using(crate::proofs::MadeLaws::puts_item))]
+    pub fn put(&mut self, op: Op, line: Option<u32>) -> Result<(), AllocError>
+        ensures { OnOk result (Puts self.old self.new (λ rest. Item.Do op line ∷ rest)) }
+    {
+        self.put_exactly(op, line)
+    }
+
+    /// A block ends. Behind a closed block a jump is left out, with its line.
+    #[tactic(auto, using(crate::proofs::MadeLaws::puts_item))]
+    pub fn end(&mut self, close: Close, line: Option<u32>) -> Result<(), AllocError>
+        ensures { OnOk result (Puts self.old self.new (λ rest. Item.End (close_view close) line ∷ rest)) }
+    {
+        self.end_exactly(close, line)
+    }
+}
