@@ -8,7 +8,7 @@ use Rattle.c_lower.proofs.NameLaws.{found_by_number}
 use Rattle.lower_agrees.proofs.Runs.{Site, Placed, Found, Stands, header, number, left}
 
 -- one block more in front
-one_more : (front : List Named) (b : Named) (rest : List Named) → front ++ b ∷ rest ≡ (front ++ b ∷ []) ++ rest
+pub one_more : (front : List Named) (b : Named) (rest : List Named) → front ++ b ∷ rest ≡ (front ++ b ∷ []) ++ rest
 one_more [] b rest = refl
 one_more (f ∷ front) b rest = ap (λ (l : List Named). f ∷ l) (one_more front b rest)
 

@@ -1,8 +1,8 @@
 -- What the layers above cite of a source's graphs: their run does what the source means, and where their endings lead.
-use Rattle.std.specs.Prelude.{◌≡◌, ℕ, ◌+◌, ◌<◌, true, List, length, slice_get, Some}
+use Rattle.std.specs.Prelude.{◌≡◌, ℕ, ◌+◌, ◌<◌, Bool, true, false, List, length, slice_get, Some}
 use Rattle.c_tree.specs.Typed.{Typed}
 use Rattle.c_tree.specs.Sound.{Sound}
-use Rattle.flow_graph.specs.Graph.{Block, Graph}
+use Rattle.flow_graph.specs.Graph.{Ending, Block, Graph}
 use Rattle.c_lower.specs.Lowered.{unit_of}
 use Rattle.c_meaning.specs.Meaning.{meaning}
 use Rattle.flow_graph.specs.Nets.{targets, among}
@@ -33,8 +33,17 @@ pub record IsBlockOf (source : Typed) (g : Graph) (b : Block) : Type 0 where
   pub place : ℕ
   pub block : slice_get g.blocks place ≡ Some b
 
--- Whatever an ending leads to is a block of the same graph, and none leads to the first.
-abbrev pub EachTargetStands : Type 0
-EachTargetStands =
-    (source : Typed) (g : Graph) (b : Block) → IsBlockOf source g b → (target : ℕ) → among target (targets b.end) ≡ true
-    → IsLater g target
+-- the ending is an arc back, which takes a turn
+abbrev pub is_back : Ending → Bool
+is_back (Ending.Back target) = true
+is_back end = false
+
+-- Whatever the ending of the block at this place leads to is a block of the graph behind its first, and a block behind
+-- its own where the ending isn't an arc back.
+pub record EndsWell (g : Graph) (place : ℕ) (end : Ending) : Type 0 where
+  pub stands : (target : ℕ) → among target (targets end) ≡ true → IsLater g target
+  pub up : is_back end ≡ false → (target : ℕ) → among target (targets end) ≡ true → 2 + place < target
+
+-- So end the blocks of every source.
+abbrev pub EachBlockEndsWell : Type 0
+EachBlockEndsWell = (source : Typed) (g : Graph) (b : Block) (at : IsBlockOf source g b) → EndsWell g at.place b.end
