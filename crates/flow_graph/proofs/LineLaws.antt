@@ -97,7 +97,8 @@ each_more : (P Q : ℕ → Type 0) (ls : List ℕ) → ((k : ℕ) → P k → Q 
 each_more P Q [] more h = tt
 each_more P Q (l ∷ ls) more h = (more l h.0, each_more P Q ls more h.1)
 
-each_with : (P : ℕ → Type 0) (n : ℕ) (ls : List ℕ) → P n → Each P ls → Each P (inserted n ls)
+-- what is so of a number and of those in a list is so of them all
+pub each_with : (P : ℕ → Type 0) (n : ℕ) (ls : List ℕ) → P n → Each P ls → Each P (inserted n ls)
 each_with P n [] p h = (p, tt)
 each_with P n (l ∷ ls) p h = go (order n l) (each_with P n ls p h.1)
   where

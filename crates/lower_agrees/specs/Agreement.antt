@@ -1,7 +1,8 @@
 -- What the layers above cite of a source's graphs: their run does what the source means, and where their endings lead.
 use Rattle.std.specs.Prelude.{◌≡◌, ℕ, ◌+◌, ◌<◌, Bool, true, false, List, length, slice_get, Some}
 use Rattle.c_tree.specs.Typed.{Typed}
-use Rattle.c_tree.specs.Sound.{Sound}
+use Rattle.c_tree.specs.Sound.{Each, IsLine, Sound}
+use Rattle.flow_graph.specs.Ascending.{Ascends}
 use Rattle.flow_graph.specs.Graph.{Ending, Block, Graph}
 use Rattle.c_lower.specs.Lowered.{unit_of}
 use Rattle.c_meaning.specs.Meaning.{meaning}
@@ -47,3 +48,13 @@ pub record EndsWell (g : Graph) (place : ℕ) (end : Ending) : Type 0 where
 -- So end the blocks of every source.
 abbrev pub EachBlockEndsWell : Type 0
 EachBlockEndsWell = (source : Typed) (g : Graph) (b : Block) (at : IsBlockOf source g b) → EndsWell g at.place b.end
+
+-- the lines of a block ascend, each once, and are lines of a source
+pub record HasLines (lines : List ℕ) : Type 0 where
+  pub ascend : Ascends lines
+  pub are_lines : Each IsLine lines
+
+-- So are the lines of each block of a sound source's graphs.
+abbrev pub EachBlockHasLines : Type 0
+EachBlockHasLines =
+    (source : Typed) → Sound source → (g : Graph) (b : Block) → IsBlockOf source g b → HasLines b.lines

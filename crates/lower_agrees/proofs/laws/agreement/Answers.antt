@@ -1,5 +1,6 @@
 use Rattle.lower_agrees.proofs.Whole.{agree}
 use Rattle.lower_agrees.proofs.Targets.{targets_stand}
+use Rattle.lower_agrees.proofs.Lines.{lines_stand}
 use Rattle.lower_agrees.proofs.laws.agreement.Goals as goal
 
 pub returns-clause-agrees : goal.returns-clause-agrees
@@ -7,3 +8,6 @@ returns-clause-agrees c = agree
 
 pub returns-clause-targets : goal.returns-clause-targets
 returns-clause-targets c = targets_stand
+
+pub returns-clause-lines : goal.returns-clause-lines
+returns-clause-lines c = lines_stand
