@@ -659,7 +659,7 @@ among_cases n t (l ∷ ls) h = go (nat_lt n l) (n == l) (λ h. among_cases n t l
     ]
 
 -- a block that is there is no further than there are blocks
-in_length : {A : Type 0} (xs : List A) (k : ℕ) (a : A) → slice_get xs k ≡ Some a → k < length xs
+pub in_length : {A : Type 0} (xs : List A) (k : ℕ) (a : A) → slice_get xs k ≡ Some a → k < length xs
 in_length [] k a e = absurd (none-some a e)
 in_length (x ∷ xs) zero a e = omega arith
 in_length (x ∷ xs) (suc k) a e = let h = in_length xs k a e in omega (arith, h)

@@ -1,13 +1,13 @@
 -- What the layers above cite of a source's graphs: their run does what the source means, and where their endings lead.
-use Rattle.std.specs.Prelude.{◌≡◌, ℕ, ◌+◌, ◌<◌, Bool, true, false, List, length, slice_get, Some}
+use Rattle.std.specs.Prelude.{◌≡◌, ℕ, suc, ◌+◌, ◌*◌, ◌<◌, Bool, true, false, List, [], ◌∷◌, length, slice_get, Some}
 use Rattle.c_tree.specs.Typed.{Typed}
 use Rattle.c_tree.specs.Sound.{Each, IsLine, Sound}
 use Rattle.flow_graph.specs.Ascending.{Ascends}
-use Rattle.flow_graph.specs.Graph.{Ending, Block, Graph}
+use Rattle.flow_graph.specs.Graph.{Ending, Block, Graph, GraphUnit}
 use Rattle.c_lower.specs.Lowered.{unit_of}
 use Rattle.c_meaning.specs.Meaning.{meaning}
 use Rattle.flow_graph.specs.Nets.{targets, among}
-use Rattle.flow_graph.specs.WalkRun.{Walked, WalkRun}
+use Rattle.flow_graph.specs.WalkRun.{Walked, WalkRun, first, goes}
 
 -- On this input and with so many turns, the run of a source's graphs comes to exactly one outcome, and its output and
 -- ending are those of the source's meaning.
@@ -58,3 +58,18 @@ pub record HasLines (lines : List ℕ) : Type 0 where
 abbrev pub EachBlockHasLines : Type 0
 EachBlockHasLines =
     (source : Typed) → Sound source → (g : Graph) (b : Block) → IsBlockOf source g b → HasLines b.lines
+
+-- how many blocks the graphs have
+abbrev pub blocks_in : List Graph → ℕ
+blocks_in [] = 0
+blocks_in (g ∷ gs) = length g.blocks + blocks_in gs
+
+-- Each turn allows a run every block once more.
+abbrev pub most_blocks : GraphUnit → ℕ → ℕ
+most_blocks u turns = suc turns * suc (blocks_in u.graphs)
+
+-- Each run of a source's graphs is over within so many blocks.
+abbrev pub EachRunIsShort : Type 0
+EachRunIsShort =
+    (source : Typed) (input : List ℕ) (turns : ℕ) (walked : Walked) → WalkRun (unit_of source) input turns walked
+    → goes (most_blocks (unit_of source) turns) (unit_of source) (first (unit_of source) input turns) ≡ Some walked
