@@ -1,28 +1,54 @@
 -- A run of a source's graphs is over within a number of blocks.
-use Rattle.std.proofs.Common.{◌≡◌, refl, sym, ap, subst, ◌∙◌, ◌<◌, ◌≤◌, arith, length, ℕ, zero, suc, ◌+◌, ◌-◌, ◌*◌,
-    ◌==◌}
-use Rattle.std.proofs.Common.{inl, inr, ◌||◌, Bool, true, false, cond, nat_lt, List, [], ◌∷◌, ◌++◌, map, Option, Some,
-    None, slice_get}
+use Rattle.std.proofs.Common.{
+  ◌≡◌,
+  refl,
+  sym,
+  ap,
+  subst,
+  ◌∙◌,
+  ◌<◌,
+  ◌≤◌,
+  arith,
+  length,
+  ℕ,
+  zero,
+  suc,
+  ◌+◌,
+  ◌-◌,
+  ◌*◌,
+  ◌==◌,
+}
+use Rattle.std.proofs.Common.{inl, inr, ◌||◌, Bool, true, false, cond, nat_lt, List, [], ◌∷◌, Option, Some, None, slice_get}
 use Rattle.std.specs.Prelude.{ℤ, pos}
 use Rattle.std.specs.Ordering.{int_eq}
 use Rattle.std.proofs.lemmas.Bool.{eq-eqb, or_left, or_right, or_cases}
 use Rattle.std.proofs.Math.Nat.{suc-mul}
-use Rattle.std.proofs.lemmas.Option.{same_Some, none-some}
+use Rattle.std.proofs.lemmas.Option.{none-some}
 use Rattle.c_tree.specs.Typed.{Typed}
 use Rattle.stack_ops.specs.declared.operation.Op.{Op}
 use Rattle.stack_ops.specs.Effect.{Step, effect}
 use Rattle.flow_graph.specs.Ascending.{inserted}
 use Rattle.flow_graph.specs.Graph.{Ending, Block, Graph, GraphUnit}
 use Rattle.flow_graph.specs.Nets.{targets, among}
-use Rattle.flow_graph.specs.WalkRun.{Caller, Point, Walked, Move, enters, with_turn, with_top, chosen, begins, calls,
-    goes_back}
-use Rattle.flow_graph.specs.WalkRun.{leaves, ends_so, state_of, with_state, stepped, does, block_at, gives_at,
-    in_block, move}
+use Rattle.flow_graph.specs.WalkRun.{
+  Caller,
+  Point,
+  Walked,
+  Move,
+  enters,
+  with_turn,
+  with_top,
+  chosen,
+  begins,
+  calls,
+  goes_back,
+}
+use Rattle.flow_graph.specs.WalkRun.{ends_so, state_of, with_state, stepped, does, block_at, gives_at, in_block, move}
 use Rattle.stack_ops.specs.declared.endings.Outcome.TheVariants as outcome
 use Rattle.stack_ops.specs.declared.endings.Trap.TheVariants as trap
 use Rattle.flow_graph.specs.WalkRun.{over, first, then_goes, goes, WalkRun}
 use Rattle.c_lower.specs.Lowered.{unit_of}
-use Rattle.lower_agrees.specs.Agreement.{IsBlockOf, EndsWell, is_back, blocks_in, most_blocks}
+use Rattle.lower_agrees.specs.Agreement.{EndsWell, is_back, blocks_in, most_blocks}
 use Rattle.lower_agrees.proofs.Targets.{targets_stand, in_length}
 
 -- a number that is put among others is among them, and so are those
@@ -165,7 +191,7 @@ module _ (u : GraphUnit) where
         let less = enters_less (Ending.Jump t) t well refl (alone t) in omega (arith, less)
     ends_less gives (Ending.Back t) well = turn_less (weight q) q.turns q _ (λ turns e.
         let worth = turn_worth q.turns turns e in let size = size_within u.graphs q.function in omega
-            (arith, worth, size))
+        (arith, worth, size))
     ends_less gives (Ending.Branch t f) well = top_less (weight q) q.operands q _ (λ a rest.
         let less = enters_less (Ending.Branch t f) (cond (int_eq a (pos 0)) f t) well refl
         (branch_among t f (int_eq a (pos 0))) in omega (arith, less))
@@ -211,7 +237,7 @@ module _ (u : GraphUnit) where
     over_within (suc k) zero p walked e lt = absurd (omega (arith, lt))
     over_within (suc k) (suc j) p walked e lt =
         go (move u p) (block_less p (slice_get u.graphs p.function) refl
-            (block_at (slice_get u.graphs p.function) p.block) refl)
+        (block_at (slice_get u.graphs p.function) p.block) refl)
         (λ q less e. over_within k j q walked e (omega (arith, less, lt))) e
       where
         go : (m : Move) → Less (weight p) m

@@ -1,6 +1,24 @@
 -- The lines of a sound source's blocks are lines of the source.
-use Rattle.std.proofs.Common.{◌≡◌, refl, sym, subst, ◌∙◌, ℕ, zero, suc, ◌+◌, ◌-◌, ◌==◌, Bool, true, false, cond, List,
-    [], ◌∷◌}
+use Rattle.std.proofs.Common.{
+  ◌≡◌,
+  refl,
+  sym,
+  subst,
+  ◌∙◌,
+  ℕ,
+  zero,
+  suc,
+  ◌+◌,
+  ◌-◌,
+  ◌==◌,
+  Bool,
+  true,
+  false,
+  cond,
+  List,
+  [],
+  ◌∷◌,
+}
 use Rattle.std.proofs.Common.{length, map, Option, Some, None}
 use Rattle.std.specs.Prelude.{slice_get}
 use Rattle.std.proofs.lemmas.Option.{same_Some, none-some}
@@ -15,24 +33,59 @@ use Rattle.c_tree.specs.TypedStmt.{TypedInit, TypedVar, TypedStmt, OtherTyped, T
 use Rattle.c_tree.specs.TypedStmt.{TypedItems}
 use Rattle.c_tree.specs.Typed.{TypedFunction, Typed}
 use Rattle.c_tree.specs.TypedParts.{base_of, size}
-use Rattle.c_tree.specs.Sound.{Scope, Inside, Each, IsLine, SoundExpr, SoundKind, SoundExprs, SoundIf, SoundTest,
-    SoundAt}
-use Rattle.c_tree.specs.Sound.{SoundInit, SoundVars, SoundReturn, SoundStmt, SoundOther, SoundStmts, SoundItems,
-    with_one}
-use Rattle.c_tree.specs.Sound.{behind, behind_item, behind_first, looped, Sound, SoundFunction, standing, at_start}
+use Rattle.c_tree.specs.Sound.{
+  Scope,
+  Inside,
+  Each,
+  IsLine,
+  SoundExpr,
+  SoundKind,
+  SoundExprs,
+  SoundIf,
+  SoundTest,
+  SoundAt,
+}
+use Rattle.c_tree.specs.Sound.{
+  SoundInit,
+  SoundVars,
+  SoundReturn,
+  SoundStmt,
+  SoundOther,
+  SoundStmts,
+  SoundItems,
+  with_one,
+}
+use Rattle.c_tree.specs.Sound.{behind, behind_first, looped, Sound, SoundFunction, standing}
 use Rattle.c_tree.specs.declared.typed_expr.CellAt.TheVariants as cell
 use Rattle.stack_ops.specs.declared.operation.Op.{Op}
 use Rattle.stack_ops.specs.declared.operation.Op.TheVariants as operation
-use Rattle.flow_graph.specs.Ascending.{inserted, Ascends}
 use Rattle.flow_graph.specs.Graph.{Block, Graph}
 use Rattle.flow_graph.proofs.LineLaws.{each_with, ascends-with}
 use Rattle.c_lower.specs.Items.{Name, Close, Item, Ways, plain, logic, converted, dropped, cast, nodes, called, ways}
-use Rattle.c_lower.specs.Items.{kind_ways, index_of, all_values, kept, doubled, named_on, init_nodes, nodes_if,
-    stmt_nodes}
+use Rattle.c_lower.specs.Items.{
+  kind_ways,
+  index_of,
+  all_values,
+  kept,
+  doubled,
+  named_on,
+  init_nodes,
+  nodes_if,
+  stmt_nodes,
+}
 use Rattle.c_lower.specs.Items.{other_nodes, zeros, elements, initialised, declarations, group_at, labelled, value_if}
 use Rattle.c_lower.specs.Items.{tested, stepped, code, code_other, codes_of, code_items, items_of, gives_number}
-use Rattle.c_lower.specs.Lowered.{Named, add_line, opened, shut, left_out, block_of, named_blocks, number_from,
-    graph_of}
+use Rattle.c_lower.specs.Lowered.{
+  Named,
+  add_line,
+  opened,
+  shut,
+  left_out,
+  block_of,
+  named_blocks,
+  number_from,
+  graph_of,
+}
 use Rattle.lower_agrees.specs.Agreement.{IsBlockOf, HasLines}
 use Rattle.lower_agrees.proofs.Calls.{graph_found, text_found}
 
@@ -132,7 +185,7 @@ module _ (A : List Item → Type 0)
         adding_plain _ (λ rest a. (lined s x (suc m) h.3).value _ (lined_cast _ to rest a))
     lined_kind s (TypedKind.Binary o x y) b line m l h =
         adding_plain _ (λ rest a. (lined s x (suc m) h.1).value _
-            ((lined s y (suc m + nodes x) h.2).value _ (act _ _ _ tt a)))
+        ((lined s y (suc m + nodes x) h.2).value _ (act _ _ _ tt a)))
     lined_kind s (TypedKind.AndAlso x y) b line m l h =
         adding_logic m line _ l (λ t f rest a. (lined s x (suc m) h.5).test _ _ _
         (begin _ _ _ l ((lined s y (suc m + nodes x) h.6).test t f rest a)))
@@ -141,25 +194,25 @@ module _ (A : List Item → Type 0)
         (begin _ _ _ l ((lined s y (suc m + nodes x) h.6).test t f rest a)))
     lined_kind s (TypedKind.Choose c x y) b line m l h =
         adding_plain _ (λ rest a. (lined s c (suc m) h.5).test _ _ _
-            (begin _ _ _ l ((lined s x (suc m + nodes c) h.6).value _
+        (begin _ _ _ l ((lined s x (suc m + nodes c) h.6).value _
         (finish _ _ _ tt (begin _ _ _ l ((lined s y (suc m + nodes c + nodes x) h.7).value _ (begin _ _ _ l a)))))))
     lined_kind s (TypedKind.Assign None target x) b line m l h =
         adding_plain _ (λ rest a. lined_index s target (suc m) _ h.3
         ((lined s x (suc m + nodes target) h.4).value _ (act _ _ _ (line_named s target h.3) a)))
     lined_kind s (TypedKind.Assign (Some o) target x) b line m l h =
         adding_plain _ (λ rest a. lined_index s target (suc m) _ h.3
-            (lined_kept target _ (act _ _ _ (line_named s target h.3)
+        (lined_kept target _ (act _ _ _ (line_named s target h.3)
         (lined_converted _ _ _ ((lined s x (suc m + nodes target) h.4).value _
         (act _ _ _ tt (lined_converted _ _ _ (act _ _ _ tt a))))))))
     lined_kind s (TypedKind.Before o target) b line m l h =
         adding_plain _ (λ rest a. lined_index s target (suc m) _ h.3
-            (lined_kept target _ (act _ _ _ (line_named s target h.3)
+        (lined_kept target _ (act _ _ _ (line_named s target h.3)
         (lined_converted _ _ _ (act _ _ _ tt (act _ _ _ tt (lined_converted _ _ _ (act _ _ _ tt a))))))))
     lined_kind s (TypedKind.After o target) b line m l h =
         adding_plain _ (λ rest a. lined_index s target (suc m) _ h.3
-            (lined_kept target _ (act _ _ _ (line_named s target h.3)
+        (lined_kept target _ (act _ _ _ (line_named s target h.3)
         (lined_doubled target _ (lined_converted _ _ _ (act _ _ _ tt
-            (act _ _ _ tt (lined_converted _ _ _ (act _ _ _ tt (act _ _ _ tt a))))))))))
+        (act _ _ _ tt (lined_converted _ _ _ (act _ _ _ tt (act _ _ _ tt a))))))))))
     lined_kind s (TypedKind.Comma x y) b line m l h =
         adding_plain _ (λ rest a. (lined s x (suc m) h.3).value _ (lined_dropped (base_of x) _
         ((lined s y (suc m + nodes x) h.4).value _ a)))
@@ -236,17 +289,17 @@ module _ (A : List Item → Type 0)
         (lined s e (suc m) h.1).value _ (lined_dropped (base_of e) rest a)
     lined_code s i (TypedStmt.If c t OtherTyped.Nothing) m b k rest h a =
         (lined s c (suc m) h.0.2).test _ _ _ (begin _ _ _ tt
-            (lined_code s i t (suc m + nodes c) b k _ h.1 (begin _ _ _ tt a)))
+        (lined_code s i t (suc m + nodes c) b k _ h.1 (begin _ _ _ tt a)))
     lined_code s i (TypedStmt.If c t (OtherTyped.There u)) m b k rest h a =
         (lined s c (suc m) h.0.2).test _ _ _ (begin _ _ _ tt (lined_code s i t (suc m + nodes c) b k _ h.1
         (finish _ _ _ tt (begin _ _ _ tt (lined_code s i u (suc m + nodes c + stmt_nodes t) b k _ h.2
-            (begin _ _ _ tt a))))))
+        (begin _ _ _ tt a))))))
     lined_code s i (TypedStmt.While c t) m b k rest h a =
         begin _ _ _ tt ((lined s c (suc m) h.0.2).test _ _ _
         (begin _ _ _ tt (lined_code s looped t (suc m + nodes c) _ _ _ h.1 (finish _ _ _ tt (begin _ _ _ tt a)))))
     lined_code s i (TypedStmt.DoWhile t c line) m b k rest h a =
         begin _ _ _ tt (lined_code s looped t (suc m) _ _ _ h.0
-            (begin _ _ _ tt ((lined s c (suc m + stmt_nodes t) h.1.2).test _ _ _
+        (begin _ _ _ tt ((lined s c (suc m + stmt_nodes t) h.1.2).test _ _ _
         (begin _ _ _ h.2 (finish _ _ _ tt (begin _ _ _ tt a))))))
     lined_code s i (TypedStmt.For (TypedForHead.Head first test step) t) m b k rest h a =
         let n : ℕ = suc m + other_nodes first in
@@ -255,8 +308,11 @@ module _ (A : List Item → Type 0)
         (lined_code over looped t (n + nodes_if test) _ _ _ h.1
         (lined_stepped over step (n + nodes_if test + stmt_nodes t) _ _ h.0.3 (finish _ _ _ tt (begin _ _ _ tt a))))))
     lined_code s i (TypedStmt.Switch e is) m b k rest h a =
-        (lined s e (suc m) h.1).value _ (finish _ _ _ tt (lined_items s (record { breaks =
-            true; continues = i.continues }) (base_of e)
+        (lined s e (suc m) h.1).value _ (finish _ _ _ tt (lined_items s (record {
+          breaks =
+              true;
+          continues = i.continues;
+        }) (base_of e)
         is (suc m + nodes e) None _ k _ h.4 (begin _ _ _ tt a)))
     lined_code s i (TypedStmt.Break place line) m b k rest h a = finish _ _ _ h.1 a
     lined_code s i (TypedStmt.Continue place line) m b k rest h a = finish _ _ _ h.1 a
@@ -353,7 +409,7 @@ lines_stand source sound g b at =
     let whole = one_sound (SoundFunction source.functions (standing cell.Global 0 sound.global_lengths)
     sound.global_types (length source.globals)) source.functions at.function text sound.functions found.1 in
     let made = opened_lined (gives_number text.result) (items_of text)
-        (lined_codes Lined (λ l line is added a. (added, a))
+    (lined_codes Lined (λ l line is added a. (added, a))
     (λ o line is added a. (added, a)) (λ c line is added a. (added, a)) _ _ text.body 0 Close.Leave Close.Leave []
     whole.body tt) in
     one_lined (block_of (number_from 2 (named_blocks text))) (λ b. refl) (named_blocks text) at.place b

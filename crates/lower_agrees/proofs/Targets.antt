@@ -1,6 +1,25 @@
 -- Each name in an ending is the name of a block of the graph, and of a later one where the ending isn't an arc back.
-use Rattle.std.proofs.Common.{◌≡◌, refl, sym, ap, subst, ◌∙◌, ◌++◌, length-append, ◌<◌, ◌≤◌, arith, length, nat_lt,
-    slice_get, ℕ, zero, suc, ◌+◌, ◌-◌}
+use Rattle.std.proofs.Common.{
+  ◌≡◌,
+  refl,
+  sym,
+  ap,
+  subst,
+  ◌∙◌,
+  ◌++◌,
+  length-append,
+  ◌<◌,
+  ◌≤◌,
+  arith,
+  length,
+  nat_lt,
+  slice_get,
+  ℕ,
+  zero,
+  suc,
+  ◌+◌,
+  ◌-◌,
+}
 use Rattle.std.proofs.Common.{◌==◌, ◌||◌, Bool, true, false}
 use Rattle.std.proofs.Common.{cond, List, [], ◌∷◌, map, Option, Some, None, ◌⊎◌, inl, inr, eqb-true}
 use Rattle.std.proofs.lemmas.Bool.{or_cases, or_left, or_right}
@@ -51,7 +70,7 @@ use Rattle.c_lower.specs.Lowered.{graph_of}
 use Rattle.flow_graph.specs.Nets.{targets, among}
 use Rattle.flow_graph.specs.WalkRun.{block_at}
 use Rattle.c_lower.proofs.NameLaws.{in_order_of}
-use Rattle.lower_agrees.specs.Agreement.{IsLater, IsBlockOf, EndsWell, is_back}
+use Rattle.lower_agrees.specs.Agreement.{IsBlockOf, EndsWell, is_back}
 use Rattle.lower_agrees.proofs.Calls.{graph_found, text_found}
 use Rattle.lower_agrees.proofs.Runs.{Site, Placed, Stands, number, graph_at}
 use Rattle.lower_agrees.proofs.Finds.{all_placed, one_more}
@@ -403,7 +422,7 @@ module _ (P A : List Item → Type 0) (B : Name → List Item → Type 0) (C : N
         let z = block _ _ _ (past_code P tail s (suc m + nodes c) b k over (tail _ _ q)) in
         aim_test c (suc m) _ _ _ (block _ _ _ q) (grow _ _ _ (up_code _ s (suc m + nodes c) b k over z)) p
         (begin _ _ _ (aim_code s (suc m + nodes c) b k over (aim_more rest over lift b tb)
-            (aim_more rest over lift k tk)
+        (aim_more rest over lift k tk)
         (tail _ _ q) (begin _ _ _ a)))
     aim_code (TypedStmt.If c s (OtherTyped.There t)) m b k rest tb tk p a =
         let n : ℕ = suc m + nodes c + stmt_nodes s in
@@ -412,14 +431,14 @@ module _ (P A : List Item → Type 0) (B : Name → List Item → Type 0) (C : N
         let first : List Item = Item.End (Close.Jump (end_of m)) None ∷ second in
         let lift : (l : Name) → B l rest → B l over = λ l b. grow l _ rest b in
         let far : (l : Name) → B l rest → B l first = λ l h. grow l _ second
-            (grow l _ _ (up_code l t n b k over (lift l h))) in
+        (grow l _ _ (up_code l t n b k over (lift l h))) in
         let q = past_test P tail c (suc m) _ _ _ p in
         let r = tail _ _ (past_code P tail s (suc m + nodes c) b k first (tail _ _ q)) in
         let z = block _ _ _ (past_code P tail t n b k over (tail _ _ r)) in
         let other = up_code _ s (suc m + nodes c) b k first (grow _ _ second (block _ _ _ r)) in
         aim_test c (suc m) _ _ _ (block _ _ _ q) (grow _ _ _ other) p
         (begin _ _ _ (aim_code s (suc m + nodes c) b k first (aim_more rest first far b tb)
-            (aim_more rest first far k tk)
+        (aim_more rest first far k tk)
         (tail _ _ q)
         (finish _ _ second (grow _ _ _ (up_code _ t n b k over z)) (begin _ _ _
         (aim_code t n b k over (aim_more rest over lift b tb) (aim_more rest over lift k tk) (tail _ _ r)

@@ -30,7 +30,7 @@ use Rattle.c_lower.specs.Items.{
 use Rattle.c_lower.specs.Items.{code, items_of, gives_number}
 use Rattle.c_lower.specs.Lowered.{Named, finished, block_of, named_blocks, graph_of, unit_of}
 use Rattle.flow_graph.specs.WalkRun.{Caller, Point, Walked, Move, does as does_ops, ends_so, block_at, cells_of, move}
-use Rattle.flow_graph.specs.WalkRun.{first, then_goes, goes, WalkRun}
+use Rattle.flow_graph.specs.WalkRun.{first, then_goes, goes}
 use Rattle.c_meaning.specs.Meaning.{World, Run, Result, Gives, Flow, Later, gave, frame, run_body, later_at, final}
 use Rattle.c_meaning.specs.Meaning.{meaning}
 use Rattle.lower_agrees.specs.Agreement.{Agrees}
