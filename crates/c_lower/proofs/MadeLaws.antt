@@ -33,59 +33,60 @@ ended None lines = refl
 ended (Some n) lines = refl
 
 module _ (gives : Bool) (done : List Named) (name : Option Name) (ops : List Op) (lines : List ℕ) (rest : List Item)
-    where
-  abbrev making : Bool → Making
-  making is_open = record { done = done; is_open = is_open; name = name; ops = ops; lines = lines }
+  where
+    abbrev making : Bool → Making
+    making is_open = record { done = done; is_open = is_open; name = name; ops = ops; lines = lines }
 
-  abbrev Same : Bool → Item → Type 0
-  Same is_open i = made gives (after i (making is_open)) rest ≡ made gives (making is_open) (i ∷ rest)
+    abbrev Same : Bool → Item → Type 0
+    Same is_open i = made gives (after i (making is_open)) rest ≡ made gives (making is_open) (i ∷ rest)
 
-  puts_begin : (is_open : Bool) (l : Name) (line : Option ℕ) → Same is_open (Item.Begin l line)
-  unfolding made
-  puts_begin true l line =
-      let o = opened gives rest in
-      append_assoc done (block name (Close.Jump l) [] ops lines)
-          (block (Some l) o.close o.later o.ops (with_lines (add_line line []) o.lines))
-      ∙ ap (λ (ls : List ℕ). done ++ block name (Close.Jump l) (block (Some l) o.close o.later o.ops ls) ops lines)
-      (began line o (opened_ascends gives rest))
-      ∙ ap (λ (os : List Op). done ++ block name (Close.Jump l)
-          (block (Some l) o.close o.later o.ops (add_line line o.lines)) os lines)
-      (sym (append-nil ops))
-  puts_begin false l line =
-      let o = opened gives rest in
-      ap (λ (ls : List ℕ). done ++ block (Some l) o.close o.later o.ops ls) (began line o (opened_ascends gives rest))
+    puts_begin : (is_open : Bool) (l : Name) (line : Option ℕ) → Same is_open (Item.Begin l line)
+    unfolding made
+    puts_begin true l line =
+        let o = opened gives rest in
+        append_assoc done (block name (Close.Jump l) [] ops lines)
+        (block (Some l) o.close o.later o.ops (with_lines (add_line line []) o.lines))
+        ∙ ap (λ (ls : List ℕ). done ++ block name (Close.Jump l) (block (Some l) o.close o.later o.ops ls) ops lines)
+        (began line o (opened_ascends gives rest))
+        ∙ ap (λ (os : List Op). done ++ block name (Close.Jump l)
+        (block (Some l) o.close o.later o.ops (add_line line o.lines)) os lines)
+        (sym (append-nil ops))
+    puts_begin false l line =
+        let o = opened gives rest in
+        ap (λ (ls : List ℕ). done ++ block (Some l) o.close o.later o.ops ls) (began line o (opened_ascends gives rest))
 
-  puts_do : (is_open : Bool) (op : Op) (line : Option ℕ) → Same is_open (Item.Do op line)
-  unfolding made
-  puts_do true op line =
-      let o = opened gives rest in
-      ap (λ (os : List Op). done ++ block name o.close o.later os (with_lines (add_line line lines) o.lines))
-      (append_assoc ops (op ∷ []) o.ops)
-      ∙ ap (λ (ls : List ℕ). done ++ block name o.close o.later (ops ++ op ∷ o.ops) ls) (lines_shift line lines o.lines)
-  puts_do false op line =
-      let o = opened gives rest in
-      ap (λ (ls : List ℕ). done ++ block None o.close o.later (op ∷ o.ops) ls)
-          (began line o (opened_ascends gives rest))
+    puts_do : (is_open : Bool) (op : Op) (line : Option ℕ) → Same is_open (Item.Do op line)
+    unfolding made
+    puts_do true op line =
+        let o = opened gives rest in
+        ap (λ (os : List Op). done ++ block name o.close o.later os (with_lines (add_line line lines) o.lines))
+        (append_assoc ops (op ∷ []) o.ops)
+        ∙ ap (λ (ls : List ℕ). done ++ block name o.close o.later (ops ++ op ∷ o.ops) ls)
+        (lines_shift line lines o.lines)
+    puts_do false op line =
+        let o = opened gives rest in
+        ap (λ (ls : List ℕ). done ++ block None o.close o.later (op ∷ o.ops) ls)
+        (began line o (opened_ascends gives rest))
 
-  puts_end : (is_open : Bool) (c : Close) (line : Option ℕ) → Same is_open (Item.End c line)
-  unfolding made
-  puts_end true c line =
-      append_assoc done (block name c [] ops (add_line line lines)) (shut gives rest)
-      ∙ ap (λ (ls : List ℕ). done ++ block name c (shut gives rest) ops ls) (ended line lines)
-      ∙ ap (λ (os : List Op). done ++ block name c (shut gives rest) os (with_lines lines (add_line line [])))
-          (sym (append-nil ops))
-  puts_end false (Close.Jump l) line = refl
-  puts_end false (Close.Back l) line = refl
-  puts_end false (Close.Branch t f) line = append_assoc done _ (shut gives rest)
-  puts_end false (Close.Select cases default) line = append_assoc done _ (shut gives rest)
-  puts_end false (Close.CallTo f at l) line = append_assoc done _ (shut gives rest)
-  puts_end false Close.Leave line = append_assoc done _ (shut gives rest)
-  puts_end false Close.Quit line = append_assoc done _ (shut gives rest)
+    puts_end : (is_open : Bool) (c : Close) (line : Option ℕ) → Same is_open (Item.End c line)
+    unfolding made
+    puts_end true c line =
+        append_assoc done (block name c [] ops (add_line line lines)) (shut gives rest)
+        ∙ ap (λ (ls : List ℕ). done ++ block name c (shut gives rest) ops ls) (ended line lines)
+        ∙ ap (λ (os : List Op). done ++ block name c (shut gives rest) os (with_lines lines (add_line line [])))
+        (sym (append-nil ops))
+    puts_end false (Close.Jump l) line = refl
+    puts_end false (Close.Back l) line = refl
+    puts_end false (Close.Branch t f) line = append_assoc done _ (shut gives rest)
+    puts_end false (Close.Select cases default) line = append_assoc done _ (shut gives rest)
+    puts_end false (Close.CallTo f at l) line = append_assoc done _ (shut gives rest)
+    puts_end false Close.Leave line = append_assoc done _ (shut gives rest)
+    puts_end false Close.Quit line = append_assoc done _ (shut gives rest)
 
-  puts_one : (is_open : Bool) (i : Item) → Same is_open i
-  puts_one is_open (Item.Begin l line) = puts_begin is_open l line
-  puts_one is_open (Item.Do op line) = puts_do is_open op line
-  puts_one is_open (Item.End c line) = puts_end is_open c line
+    puts_one : (is_open : Bool) (i : Item) → Same is_open i
+    puts_one is_open (Item.Begin l line) = puts_begin is_open l line
+    puts_one is_open (Item.Do op line) = puts_do is_open op line
+    puts_one is_open (Item.End c line) = puts_end is_open c line
 
 -- Blocks that an item was put behind are those of the item and of what comes behind it.
 pub puts_item : (i : Item) (old new : Making) → new ≡ after i old → Puts old new (λ rest. i ∷ rest)

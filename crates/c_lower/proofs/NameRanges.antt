@@ -1,6 +1,27 @@
 -- The blocks that an expression begins have the numbers of its own nodes in their names, and no two of them have one
 -- name.
-use Rattle.std.proofs.Common.{arith, ◌≡◌, ◌≢◌, refl, ℕ, suc, ◌+◌, ◌<◌, ◌≤◌, ◌==◌, Bool, true, false, cond, List, [], ◌∷◌, Option, Some, None}
+use Rattle.std.proofs.Common.{
+  arith,
+  ◌≡◌,
+  ◌≢◌,
+  refl,
+  ℕ,
+  suc,
+  ◌+◌,
+  ◌<◌,
+  ◌≤◌,
+  ◌==◌,
+  Bool,
+  true,
+  false,
+  cond,
+  List,
+  [],
+  ◌∷◌,
+  Option,
+  Some,
+  None,
+}
 use Rattle.std.specs.Prelude.{nat_lt}
 use Rattle.std.proofs.lemmas.Bool.Decides.{nat_tests}
 use Rattle.int_ops.specs.declared.types.IntType.{IntType}
@@ -222,7 +243,8 @@ module _ {l : Name} where
       → ((t f : Name) (rest : List Item) → Adds l (suc m) n (here l (right_of m)) rest (k t f rest)) → Puts l
       (logic m line k) m n
   logic_puts {m = m} line k h = record {
-    value = λ rest. node m (3 ∷ 6 ∷ 8 ∷ 10 ∷ []) (omega arith) (then (h _ _ _) (named (op (end (named (op (named still)))))))
+    value = λ rest. node m (3 ∷ 6 ∷ 8 ∷ 10 ∷ []) (omega arith)
+        (then (h _ _ _) (named (op (end (named (op (named still)))))))
         (omega arith);
     test = λ t f rest. node m (8 ∷ []) (omega arith) (h t f rest) (omega arith);
   }

@@ -1,4 +1,5 @@
-//! Blocks in the making: items are put behind one another, and each names a block, an operation or an ending.
+//! Blocks in the making: items are put behind one another, and each names a block, an operation or
+//! an ending.
 
 ghost use Rattle.std.specs.Prelude.{◌≡◌, Bool, List, [], ◌∷◌, ◌++◌, true, false, cond, Option, Some, None, OnOk};
 ghost use Rattle.c_lower.specs.Items.{Item};
@@ -6,8 +7,8 @@ ghost use Rattle.c_lower.specs.Items as items;
 ghost use Rattle.c_lower.specs.CloseView.{close_view};
 ghost use Rattle.c_lower.specs.Building.{Puts, after, open_with, close_with, ready, with_op_of, with_line_of, ends_shut, jumped};
 
-use flow_graph::lines::Lines;
 use crate::named::{Close, Label, NamedBlock};
+use flow_graph::lines::Lines;
 use stack_ops::Op;
 use std::alloc::{AllocError, Global};
 use std::marker::Model;
@@ -162,7 +163,8 @@ impl Blocks {
     /// A block ends. Behind a closed block a jump is left out, with its line.
     #[tactic(auto, using(crate::proofs::MadeLaws::puts_item))]
     pub fn end(&mut self, close: Close, line: Option<u32>) -> Result<(), AllocError>
-        ensures { OnOk result (Puts self.old self.new (λ rest. Item.End (close_view close) line ∷ rest)) }
+        ensures { OnOk result (Puts self.old self.new
+            (λ rest. Item.End (close_view close) line ∷ rest)) }
     {
         self.end_exactly(close, line)
     }

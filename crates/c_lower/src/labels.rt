@@ -1,4 +1,5 @@
-//! The names of blocks: the node of the tree that a block belongs to, and which of its blocks it is.
+//! The names of blocks: the node of the tree that a block belongs to, and which of its blocks it
+//! is.
 
 ghost use Rattle.std.specs.Prelude.{◌≡◌, suc, IfOk, OnOk};
 ghost use Rattle.c_lower.specs.Items as items;

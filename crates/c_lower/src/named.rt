@@ -4,7 +4,8 @@ use flow_graph::lines::Lines;
 use stack_ops::Op;
 use std::marker::Model;
 
-/// The name of a block: the number of a node of the function's tree, in the order of the text, and which of its blocks it is.
+/// The name of a block: the number of a node of the function's tree, in the order of the text, and
+/// which of its blocks it is.
 #[derive(Clone, Copy, Debug)]
 pub struct Label {
     pub node: u32,
@@ -49,5 +50,10 @@ impl Model for NamedBlock {
 
     ghost Value = { Named };
 
-    ghost view = { λ b. record { name = b.name; ops = b.ops.items; close = close_view b.close; lines = b.lines } };
+    ghost view = { λ b. record {
+      name = b.name;
+      ops = b.ops.items;
+      close = close_view b.close;
+      lines = b.lines;
+    } };
 }

@@ -67,7 +67,8 @@ pub fn call(out: &mut Blocks, callee: Callee, line: u32, node: u32) -> Result<()
 }
 
 fn one(out: &mut Blocks, node: u32, line: u32) -> Result<(), AllocError>
-    ensures { OnOk result (Puts out.old out.new (λ rest. Item.Begin (true_of node) (Some line) ∷ Item.Do (op.Push (pos 1)) None ∷ Item.End (items.Close.Jump (join_of node)) None ∷ rest)) }
+    ensures { OnOk result (Puts out.old out.new (λ rest. Item.Begin (true_of node) (Some line) ∷
+        Item.Do (op.Push (pos 1)) None ∷ Item.End (items.Close.Jump (join_of node)) None ∷ rest)) }
 {
     out.begin(labels::when_true(node), Some(line))?;
     out.put(Op::Push(1), None)?;
@@ -75,7 +76,8 @@ fn one(out: &mut Blocks, node: u32, line: u32) -> Result<(), AllocError>
 }
 
 fn zero(out: &mut Blocks, node: u32, line: u32) -> Result<(), AllocError>
-    ensures { OnOk result (Puts out.old out.new (λ rest. Item.Begin (false_of node) (Some line) ∷ Item.Do (op.Push (pos 0)) None ∷ Item.Begin (join_of node) (Some line) ∷ rest)) }
+    ensures { OnOk result (Puts out.old out.new (λ rest. Item.Begin (false_of node) (Some line) ∷
+        Item.Do (op.Push (pos 0)) None ∷ Item.Begin (join_of node) (Some line) ∷ rest)) }
 {
     out.begin(labels::when_false(node), Some(line))?;
     out.put(Op::Push(0), None)?;
@@ -84,7 +86,10 @@ fn zero(out: &mut Blocks, node: u32, line: u32) -> Result<(), AllocError>
 
 /// The 1 or 0 of a condition, in blocks of its operator's line.
 pub fn as_number(out: &mut Blocks, node: u32, line: u32) -> Result<(), AllocError>
-    ensures { OnOk result (Puts out.old out.new (λ rest. Item.Begin (true_of node) (Some line) ∷ Item.Do (op.Push (pos 1)) None ∷ Item.End (items.Close.Jump (join_of node)) None ∷ Item.Begin (false_of node) (Some line) ∷ Item.Do (op.Push (pos 0)) None ∷ Item.Begin (join_of node) (Some line) ∷ rest)) }
+    ensures { OnOk result (Puts out.old out.new (λ rest. Item.Begin (true_of node) (Some line) ∷
+        Item.Do (op.Push (pos 1)) None ∷ Item.End (items.Close.Jump (join_of node)) None ∷
+        Item.Begin (false_of node) (Some line) ∷ Item.Do (op.Push (pos 0)) None ∷ Item.Begin
+        (join_of node) (Some line) ∷ rest)) }
 {
     one(out, node, line)?;
     zero(out, node, line)
@@ -92,7 +97,8 @@ pub fn as_number(out: &mut Blocks, node: u32, line: u32) -> Result<(), AllocErro
 
 /// An index is kept for the store behind the load.
 pub fn keep(out: &mut Blocks, target: &TypedExpr) -> Result<(), AllocError>
-    ensures { OnOk result (Puts out.old out.new (λ rest. items.kept (typed_expr_view target.now) rest)) }
+    ensures { OnOk result (Puts out.old out.new (λ rest. items.kept (typed_expr_view target.now)
+        rest)) }
 {
     match &target.kind {
         TypedKind::Index(..) => out.put(Op::Dup, None),
@@ -102,7 +108,8 @@ pub fn keep(out: &mut Blocks, target: &TypedExpr) -> Result<(), AllocError>
 
 /// The old value stays below what is computed; that of an element goes below its index too.
 pub fn double(out: &mut Blocks, target: &TypedExpr) -> Result<(), AllocError>
-    ensures { OnOk result (Puts out.old out.new (λ rest. items.doubled (typed_expr_view target.now) rest)) }
+    ensures { OnOk result (Puts out.old out.new (λ rest. items.doubled (typed_expr_view target.now)
+        rest)) }
 {
     match &target.kind {
         TypedKind::Index(..) => {
@@ -114,23 +121,40 @@ pub fn double(out: &mut Blocks, target: &TypedExpr) -> Result<(), AllocError>
 }
 
 fn load(out: &mut Blocks, target: &TypedExpr) -> Result<(), AllocError>
-    ensures { OnOk result (Puts out.old out.new (λ rest. items.kept (typed_expr_view target.now) (Item.Do (items.loads (typed_expr_view target.now)) (Some (items.named_on (typed_expr_view target.now))) ∷ rest))) }
+    ensures { OnOk result (Puts out.old out.new (λ rest. items.kept (typed_expr_view target.now)
+        (Item.Do (items.loads (typed_expr_view target.now))
+        (Some (items.named_on (typed_expr_view target.now))) ∷ rest))) }
 {
     keep(out, target)?;
     out.put(loads(target)?, Some(named_on(target)))
 }
 
 /// The old value of what is changed, in the type in which it is changed.
-pub fn fetch(out: &mut Blocks, target: &TypedExpr, from: IntType, to: IntType) -> Result<(), AllocError>
-    ensures { OnOk result (Puts out.old out.new (λ rest. items.kept (typed_expr_view target.now) (Item.Do (items.loads (typed_expr_view target.now)) (Some (items.named_on (typed_expr_view target.now))) ∷ items.converted from to rest))) }
+pub fn fetch(
+    out: &mut Blocks,
+    target: &TypedExpr,
+    from: IntType,
+    to: IntType,
+) -> Result<(), AllocError>
+    ensures { OnOk result (Puts out.old out.new (λ rest. items.kept (typed_expr_view target.now)
+        (Item.Do (items.loads (typed_expr_view target.now))
+        (Some (items.named_on (typed_expr_view target.now))) ∷ items.converted from to rest))) }
 {
     load(out, target)?;
     convert(out, from, to)
 }
 
 /// The same, where the old value is what the expression gives.
-pub fn fetch_twice(out: &mut Blocks, target: &TypedExpr, from: IntType, to: IntType) -> Result<(), AllocError>
-    ensures { OnOk result (Puts out.old out.new (λ rest. items.kept (typed_expr_view target.now) (Item.Do (items.loads (typed_expr_view target.now)) (Some (items.named_on (typed_expr_view target.now))) ∷ items.doubled (typed_expr_view target.now) (items.converted from to rest)))) }
+pub fn fetch_twice(
+    out: &mut Blocks,
+    target: &TypedExpr,
+    from: IntType,
+    to: IntType,
+) -> Result<(), AllocError>
+    ensures { OnOk result (Puts out.old out.new (λ rest. items.kept (typed_expr_view target.now)
+        (Item.Do (items.loads (typed_expr_view target.now))
+        (Some (items.named_on (typed_expr_view target.now))) ∷ items.doubled
+        (typed_expr_view target.now) (items.converted from to rest)))) }
 {
     load(out, target)?;
     double(out, target)?;
@@ -145,7 +169,9 @@ pub fn change(
     line: u32,
     target: &TypedExpr,
 ) -> Result<(), AllocError>
-    ensures { OnOk result (Puts out.old out.new (λ rest. plainly (items.operator op types.1 line) (items.converted types.1 types.0 (plainly (items.stores (typed_expr_view target.now)) rest)))) }
+    ensures { OnOk result (Puts out.old out.new (λ rest. plainly (items.operator op types.1 line)
+        (items.converted types.1 types.0 (plainly (items.stores (typed_expr_view target.now))
+        rest)))) }
 {
     out.put(operator(op, types.1, line), None)?;
     convert(out, types.1, types.0)?;

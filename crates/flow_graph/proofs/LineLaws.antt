@@ -63,15 +63,15 @@ swapped_up a b (l ∷ ls) h = go (order a l) (order b l) (swapped_up a b ls h)
     go (below p) (below q) more =
         ap (inserted a) (put_below b l ls q) ∙ put_below a b (l ∷ ls) h
         ∙ sym (ap (inserted b) (put_below a l ls p) ∙ put_above b a (l ∷ ls) h ∙ ap (λ (r : List ℕ). a ∷ r)
-            (put_below b l ls q))
+        (put_below b l ls q))
     go (below p) (same e) more =
         ap (inserted a) (put_same b l ls e) ∙ put_below a l ls p
         ∙ sym (ap (inserted b) (put_below a l ls p) ∙ put_above b a (l ∷ ls) h ∙ ap (λ (r : List ℕ). a ∷ r)
-            (put_same b l ls e))
+        (put_same b l ls e))
     go (below p) (above q) more =
         ap (inserted a) (put_above b l ls q) ∙ put_below a l (inserted b ls) p
         ∙ sym (ap (inserted b) (put_below a l ls p) ∙ put_above b a (l ∷ ls) h ∙ ap (λ (r : List ℕ). a ∷ r)
-            (put_above b l ls q))
+        (put_above b l ls q))
     go (same e) (above q) more =
         ap (inserted a) (put_above b l ls q) ∙ put_same a l (inserted b ls) e
         ∙ sym (ap (inserted b) (put_same a l ls e) ∙ put_above b l ls q)
@@ -122,7 +122,6 @@ pub put_first : (l : ℕ) (ls : List ℕ) → Each (λ m. l < m) ls → inserted
 put_first l [] h = refl
 put_first l (m ∷ ls) h = put_below l m ls h.0
 
-
 -- ---- places
 
 each_get : (P : ℕ → Type 0) (ls : List ℕ) (k n : ℕ) → Each P ls → slice_get ls k ≡ Some n → P n
@@ -154,12 +153,12 @@ has_place n k ls h le up down = record { within = le; put = go n k ls h le up do
     go n (suc k) [] h le up down = absurd (omega (arith, le))
     go n (suc zero) (l ∷ ls) h le up down =
         put_above n l ls (down 0 refl) ∙ ap (λ (r : List ℕ). l ∷ r)
-            (go n zero ls h.1 (omega arith) up (λ j e. absurd (omega (arith, e))))
+        (go n zero ls h.1 (omega arith) up (λ j e. absurd (omega (arith, e))))
     go n (suc (suc k)) (l ∷ ls) h le up down =
         put_above n l ls (let low = down (suc k) refl in let first = each_at (λ m. l < m) ls k h.0 (omega (arith, le))
-            in omega (arith, low, first))
+        in omega (arith, low, first))
         ∙ ap (λ (r : List ℕ). l ∷ r) (go n (suc k) ls h.1 (omega (arith, le)) up
-            (λ j e. down (suc j) (omega (arith, e))))
+        (λ j e. down (suc j) (omega (arith, e))))
 
 -- what is so of the numbers from a place on, and of the one before it
 pub each_from : (P : ℕ → Type 0) (ls : List ℕ) (k j : ℕ) → suc j ≡ k → k ≤ length ls → P (get_or ls j 0) → Each P
@@ -182,5 +181,5 @@ pub kept_whole : (ls old now : List ℕ) (n k : ℕ) → Ascends old → ls ≡ 
     inserted n now
 kept_whole ls old now n k h equal seen e =
     let own : old ≡ inserted n old = sym (there_already n old k h
-        (subst (λ (l : List ℕ). slice_get l k ≡ Some n) equal e)) in
+    (subst (λ (l : List ℕ). slice_get l k ≡ Some n) equal e)) in
     subst (λ (l : List ℕ). l ≡ inserted n l) seen own

@@ -148,7 +148,8 @@ no_case = refl
 
 -- ---- a trap ends the run in its block; what a block lacks breaks it
 
-trap_in_a_block : run (main_of (block (op.Push (pos 1) ∷ op.Push (pos 0) ∷ op.Div type.Int 3 ∷ []) Ending.Return [] ∷ [])) [] 0
+trap_in_a_block : run (main_of (block (op.Push (pos 1) ∷ op.Push (pos 0) ∷ op.Div type.Int 3 ∷ []) Ending.Return [] ∷
+    [])) [] 0
     ≡ came [] (outcome.Trapped trap.DivideByZero 3) (walk 0 (0 ∷ 2 ∷ []) ∷ [])
 trap_in_a_block = refl
 

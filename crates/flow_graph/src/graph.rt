@@ -45,7 +45,8 @@ pub struct Graph {
     pub blocks: Vec<Block>,
 }
 
-/// The graphs of a source's functions, the numbers that its globals begin with, and the number of `main`.
+/// The graphs of a source's functions, the numbers that its globals begin with, and the number of
+/// `main`.
 #[derive(Debug, Drop)]
 pub struct GraphUnit {
     pub globals: Vec<i128>,

@@ -55,8 +55,8 @@ impl Lines {
     }
 }
 
-/// Where the line stands among ascending lines, or else where it has its place. The lines of a block come nearly in their
-/// order, so it looks from the end.
+/// Where the line stands among ascending lines, or else where it has its place. The lines of a
+/// block come nearly in their order, so it looks from the end.
 fn find(lines: &[u32], line: u32) -> Result<usize, usize>
     requires { Ascends lines.now }
     ensures { MatchResult result (λ k. slice_get lines.now k ≡ Some line) (HasPlace lines.now line) }

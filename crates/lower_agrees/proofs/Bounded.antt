@@ -18,7 +18,23 @@ use Rattle.std.proofs.Common.{
   ◌*◌,
   ◌==◌,
 }
-use Rattle.std.proofs.Common.{inl, inr, ◌||◌, Bool, true, false, cond, nat_lt, List, [], ◌∷◌, Option, Some, None, slice_get}
+use Rattle.std.proofs.Common.{
+  inl,
+  inr,
+  ◌||◌,
+  Bool,
+  true,
+  false,
+  cond,
+  nat_lt,
+  List,
+  [],
+  ◌∷◌,
+  Option,
+  Some,
+  None,
+  slice_get,
+}
 use Rattle.std.specs.Prelude.{ℤ, pos}
 use Rattle.std.specs.Ordering.{int_eq}
 use Rattle.std.proofs.lemmas.Bool.{eq-eqb, or_left, or_right, or_cases}

@@ -86,6 +86,7 @@ use Rattle.c_lower.specs.Lowered.{
   number_from,
   graph_of,
 }
+use Rattle.lower_agrees.proofs.Whole.{each_at}
 use Rattle.lower_agrees.specs.Agreement.{IsBlockOf, HasLines}
 use Rattle.lower_agrees.proofs.Calls.{graph_found, text_found}
 
@@ -392,11 +393,6 @@ one_lined f keeps (n ∷ bs) zero b h e =
     subst (λ (b : Block). HasLines b.lines) (same_Some (f n) b e) (subst HasLines (sym (keeps n)) h.0)
 one_lined f keeps (n ∷ bs) (suc k) b h e = one_lined f keeps bs k b h.1 e
 
-one_sound : {A : Type 0} (P : A → Type 0) (xs : List A) (k : ℕ) (a : A) → Each P xs → slice_get xs k ≡ Some a → P a
-one_sound P [] k a h e = absurd (none-some a e)
-one_sound P (x ∷ xs) zero a h e = subst P (same_Some x a e) h.0
-one_sound P (x ∷ xs) (suc k) a h e = one_sound P xs k a h.1 e
-
 -- The lines of each block of a sound source's graphs ascend, and are lines of the source.
 pub lines_stand : (source : Typed) → Sound source → (g : Graph) (b : Block) → IsBlockOf source g b → HasLines b.lines
 lines_stand source sound g b at =
@@ -406,7 +402,7 @@ lines_stand source sound g b at =
     let own : slice_get (graph_of found.0).blocks at.place ≡ Some b =
     subst (λ (g : Graph). slice_get g.blocks at.place ≡ Some b) (sym same) at.block in
     let text : TypedFunction = found.0 in
-    let whole = one_sound (SoundFunction source.functions (standing cell.Global 0 sound.global_lengths)
+    let whole = each_at (SoundFunction source.functions (standing cell.Global 0 sound.global_lengths)
     sound.global_types (length source.globals)) source.functions at.function text sound.functions found.1 in
     let made = opened_lined (gives_number text.result) (items_of text)
     (lined_codes Lined (λ l line is added a. (added, a))

@@ -44,7 +44,7 @@ use Rattle.lower_agrees.proofs.Calls.{site, starting, graph_found}
 use Rattle.lower_agrees.proofs.Statements.{Known, does, does_all, does_round}
 
 -- what is so of each is so of one
-each_at : {A : Type 0} (P : A → Type 0) (xs : List A) (k : ℕ) (a : A) → Each P xs → slice_get xs k ≡ Some a → P a
+pub each_at : {A : Type 0} (P : A → Type 0) (xs : List A) (k : ℕ) (a : A) → Each P xs → slice_get xs k ≡ Some a → P a
 each_at P [] k a h e = absurd (none-some a e)
 each_at P (x ∷ xs) zero a h e = subst P (same_Some x a e) h.0
 each_at P (x ∷ xs) (suc k) a h e = each_at P xs k a h.1 e

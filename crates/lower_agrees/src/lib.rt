@@ -1,4 +1,5 @@
-//! What a source means is what its graphs do: the theorem, and laws of those graphs, as clauses that callers cite.
+//! What a source means is what its graphs do: the theorem, and laws of those graphs, as clauses
+//! that callers cite.
 
 #![tactic(auto)]
 

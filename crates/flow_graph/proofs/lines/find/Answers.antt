@@ -14,7 +14,7 @@ loop-at-preserved c = record {
   above = each_from (λ m. c.args.line < m) c.args.lines.now c.loop-at.at (c.loop-at.at - 1)
       (omega (arith, c.loop-at-test.true))
       c.loop-at.invariant.within (grind (arith, c.if-last-line.false, c.if-last-line-2.false))
-          c.loop-at.invariant.above;
+      c.loop-at.invariant.above;
 }
 
 pub returns : goal.returns

@@ -1,0 +1,189 @@
+-- Scopes as the check keeps them.
+use Rattle.std.proofs.Common.{
+  arith,
+  ◌≡◌,
+  refl,
+  sym,
+  ap,
+  ◌∙◌,
+  subst,
+  ℕ,
+  ◌≤◌,
+  Bool,
+  true,
+  false,
+  cond,
+  List,
+  [],
+  ◌∷◌,
+  ◌++◌,
+  length,
+  drop,
+  is_some,
+  Option,
+  Some,
+  bytes_eq,
+}
+use Rattle.indexmap.specs.IndexMap.{insert_entry}
+use Rattle.c_tree.specs.declared.typed_expr.CellAt.{CellAt}
+use Rattle.c_tree.specs.declared.typed_expr.CellAt.TheVariants as cell
+use Rattle.c_tree.specs.Stmt.{Var, Stmt, OtherStmt, ForHead, Stmts, SwitchItem, SwitchItems}
+use Rattle.c_types.specs.declared.names.Meaning.{Meaning}
+use Rattle.c_types.specs.declared.names.Meaning.TheVariants as meant
+use Rattle.c_types.specs.Names.{Scope, Here, found, is_declared, declare, inner, leaving}
+use Rattle.c_types.specs.TypedForms.{number_type}
+use Rattle.c_types.specs.Declarations.{var_length, declare_var, declare_vars}
+use Rattle.c_types.specs.Statements.{after, after_other, after_head, after_all, after_item, after_items}
+
+last_by : (b : Bool) (entry more : List ℕ × Meaning) (scope rest : Scope) (name : List ℕ) →
+    (is_some (found name scope) ≡ false → rest ≡ scope ++ more ∷ [])
+    → is_some (cond b (Some entry.1) (found name scope)) ≡ false → cond b ((entry.0, more.1) ∷ scope) (entry ∷ rest) ≡
+    (entry ∷ scope) ++ more ∷ []
+last_by true entry more scope rest name h new = (let e : ◌≡◌ {A = Bool} true false = new in absurd (cc))
+last_by false entry more scope rest name h new = ap (λ es. entry ∷ es) (h new)
+
+inserted_last : (scope : Scope) (name : List ℕ) (m : Meaning) → is_some (found name scope) ≡ false → insert_entry
+    bytes_eq scope name m ≡ scope ++ (name, m) ∷ []
+inserted_last [] name m new = refl
+inserted_last (entry ∷ scope) name m new =
+    last_by (bytes_eq name entry.0) entry (name, m) scope (insert_entry bytes_eq scope name m) name
+    (inserted_last scope name m) new
+
+-- a new name of a scope is inserted behind the others
+pub declared_last : (scope : Scope) (outer : List Scope) (name : List ℕ) (m : Meaning) → is_some (found name scope) ≡
+    false
+    → insert_entry bytes_eq scope name m ∷ outer ≡ declare name m (scope ∷ outer)
+declared_last scope outer name m new = ap (λ s. s ∷ outer) (inserted_last scope name m new)
+
+-- and then the name is declared at a point of the text
+pub declared_here : (scope after : Scope) (outer : List Scope) (next : ℕ) (h : Here) (name : List ℕ) (m : Meaning)
+    → ◌≡◌ {A = Here} (record { scopes = scope ∷ outer; next = next }) h → is_declared h.scopes name ≡ false → after ≡
+    insert_entry bytes_eq scope name m
+    → ◌≡◌ {A = Here} (record { scopes = after ∷ outer; next = next })
+    (record { scopes = declare name m h.scopes; next = h.next })
+declared_here scope after outer next h name m view new is =
+    subst (λ x. ◌≡◌ {A = Here} (record { scopes = after ∷ outer; next = next })
+    (record { scopes = declare name m x.scopes; next = x.next })) view
+    (ap (here next) (ap (λ a. a ∷ outer) is ∙ declared_last scope outer name m
+    (subst (λ x. is_declared x.scopes name ≡ false) (sym view) new)))
+  where
+    here : ℕ → List Scope → Here
+    here n scopes = record { scopes = scopes; next = n }
+
+-- a part of the text changes the innermost scope alone
+record Keeps (before now : List Scope) : Type 0 where
+  outer : drop 1 now ≡ drop 1 before
+  long : length before ≤ length now
+
+same : (n : List Scope) → Keeps n n
+same n = record { outer = refl; long = omega arith }
+
+then : (a b c : List Scope) → Keeps a b → Keeps b c → Keeps a c
+then a b c first next =
+    record { outer = next.outer ∙ first.outer; long = (let x = first.long in let y = next.long in omega (arith, x, y)) }
+
+declare_keeps : (n : List Scope) (name : List ℕ) (m : Meaning) → Keeps n (declare name m n)
+declare_keeps [] name m = record { outer = refl; long = omega arith }
+declare_keeps (scope ∷ outer) name m = record { outer = refl; long = omega arith }
+
+vars_keep : (vs : List Var) (at : ℕ → CellAt) (h : Here) → Keeps h.scopes (declare_vars at h vs).scopes
+vars_keep [] at h = same h.scopes
+vars_keep (v ∷ vs) at h =
+    then h.scopes (declare_var at h v).scopes (declare_vars at (declare_var at h v) vs).scopes
+    (declare_keeps h.scopes v.name (meant.Variable (at h.next) (var_length h.scopes v) (number_type v.base)))
+    (vars_keep vs at (declare_var at h v))
+
+stmt_keeps : (s : Stmt) (h : Here) → Keeps h.scopes (after h s).scopes
+stmt_keeps (Stmt.Vars vars) h = vars_keep vars cell.Local h
+stmt_keeps (Stmt.Block ss) h = same h.scopes
+stmt_keeps Stmt.Empty h = same h.scopes
+stmt_keeps (Stmt.Value e) h = same h.scopes
+stmt_keeps (Stmt.If e s other) h = same h.scopes
+stmt_keeps (Stmt.While e s) h = same h.scopes
+stmt_keeps (Stmt.DoWhile s e line) h = same h.scopes
+stmt_keeps (Stmt.For head s) h = same h.scopes
+stmt_keeps (Stmt.Switch e is) h = same h.scopes
+stmt_keeps (Stmt.Break place line) h = same h.scopes
+stmt_keeps (Stmt.Continue place line) h = same h.scopes
+stmt_keeps (Stmt.Return e place line) h = same h.scopes
+
+other_keeps : (s : OtherStmt) (h : Here) → Keeps h.scopes (after_other h s).scopes
+other_keeps OtherStmt.Nothing h = same h.scopes
+other_keeps (OtherStmt.There s) h = stmt_keeps s h
+
+head_keeps : (head : ForHead) (h : Here) → Keeps h.scopes (after_head h head).scopes
+head_keeps (ForHead.Head first test step) h = other_keeps first h
+
+all_keep : (ss : Stmts) (h : Here) → Keeps h.scopes (after_all h ss).scopes
+all_keep Stmts.End h = same h.scopes
+all_keep (Stmts.More s ss) h =
+    then h.scopes (after h s).scopes (after_all (after h s) ss).scopes (stmt_keeps s h) (all_keep ss (after h s))
+
+item_keeps : (i : SwitchItem) (h : Here) → Keeps h.scopes (after_item h i).scopes
+item_keeps (SwitchItem.Case e place) h = same h.scopes
+item_keeps (SwitchItem.Default place) h = same h.scopes
+item_keeps (SwitchItem.Item s) h = stmt_keeps s h
+
+items_keep : (is : SwitchItems) (h : Here) → Keeps h.scopes (after_items h is).scopes
+items_keep SwitchItems.Last h = same h.scopes
+items_keep (SwitchItems.Further i is) h =
+    then h.scopes (after_item h i).scopes (after_items (after_item h i) is).scopes (item_keeps i h)
+    (items_keep is (after_item h i))
+
+-- a scope that was opened and is closed again
+closed : (h now : Here) → Keeps (inner h).scopes now.scopes → record {
+  scopes =
+      drop 1 now.scopes;
+  next = now.next;
+} ≡ leaving h now
+closed h now keeps = ap (λ n. leaving (record { scopes = n; next = h.next }) now) keeps.outer
+
+opened : (h now : Here) → Keeps (inner h).scopes now.scopes → 2 ≤ length (inner h).scopes → 2 ≤ length now.scopes
+opened h now keeps two = (let x = keeps.long in omega (arith, x, two))
+
+pub stmt_closed : (h : Here) (s : Stmt) → record {
+  scopes =
+      drop 1 (after (inner h) s).scopes;
+  next = (after (inner h) s).next;
+} ≡ leaving h (after (inner h) s)
+stmt_closed h s = closed h (after (inner h) s) (stmt_keeps s (inner h))
+
+pub all_closed : (h : Here) (ss : Stmts) → record {
+  scopes =
+      drop 1 (after_all (inner h) ss).scopes;
+  next = (after_all (inner h) ss).next;
+} ≡ leaving h (after_all (inner h) ss)
+all_closed h ss = closed h (after_all (inner h) ss) (all_keep ss (inner h))
+
+pub items_closed : (h : Here) (is : SwitchItems) → record
+    { scopes = drop 1 (after_items (inner h) is).scopes; next = (after_items (inner h) is).next } ≡ leaving h
+    (after_items (inner h) is)
+items_closed h is = closed h (after_items (inner h) is) (items_keep is (inner h))
+
+pub for_closed : (h : Here) (head : ForHead) (s : Stmt)
+    → record {
+      scopes = drop 1 (after (after_head (inner h) head) s).scopes;
+      next =
+          (after (after_head (inner h) head) s).next;
+    } ≡ leaving h (after (after_head (inner h) head) s)
+for_closed h head s =
+    closed h (after (after_head (inner h) head) s)
+    (then (inner h).scopes (after_head (inner h) head).scopes (after (after_head (inner h) head) s).scopes
+    (head_keeps head (inner h)) (stmt_keeps s (after_head (inner h) head)))
+
+pub stmt_opened : (h : Here) (s : Stmt) → 2 ≤ length (inner h).scopes → 2 ≤ length (after (inner h) s).scopes
+stmt_opened h s two = opened h (after (inner h) s) (stmt_keeps s (inner h)) two
+
+pub all_opened : (h : Here) (ss : Stmts) → 2 ≤ length (inner h).scopes → 2 ≤ length (after_all (inner h) ss).scopes
+all_opened h ss two = opened h (after_all (inner h) ss) (all_keep ss (inner h)) two
+
+pub items_opened : (h : Here) (is : SwitchItems) → 2 ≤ length (inner h).scopes → 2 ≤ length
+    (after_items (inner h) is).scopes
+items_opened h is two = opened h (after_items (inner h) is) (items_keep is (inner h)) two
+
+pub for_opened : (h : Here) (head : ForHead) (s : Stmt) → 2 ≤ length (inner h).scopes → 2 ≤ length
+    (after (after_head (inner h) head) s).scopes
+for_opened h head s two =
+    opened h (after (after_head (inner h) head) s)
+    (then (inner h).scopes (after_head (inner h) head).scopes (after (after_head (inner h) head) s).scopes
+    (head_keeps head (inner h)) (stmt_keeps s (after_head (inner h) head))) two
