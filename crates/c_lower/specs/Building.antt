@@ -51,10 +51,11 @@ close_with c m = record {
 abbrev pub ready : Making → Making
 ready m = cond m.is_open m (open_with None m)
 
--- an operation, a line, of the open block
+-- the open block with an operation behind its others
 abbrev pub with_op_of : Op → Making → Making
 with_op_of o m = record m { ops = m.ops ++ o ∷ [] }
 
+-- the open block with a line, if one is given
 abbrev pub with_line_of : Option ℕ → Making → Making
 with_line_of line m = record m { lines = add_line line m.lines }
 
