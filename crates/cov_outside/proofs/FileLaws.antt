@@ -1,6 +1,7 @@
 -- How the calls on files join.
 use Rattle.std.proofs.Common.{◌≡◌, ◌≢◌, ℕ, ◌≤◌, ◌+◌, List, [], ◌++◌, length, take, refl, sym, ◌∙◌, ap, subst, append_assoc, append-nil, arith}
-use Rattle.std.specs.Prelude.{Option, Some, None, Result, Ok, Err}
+use Rattle.std.specs.Prelude.{Option, Some, None, Result, Ok, Err, codes}
+use Rattle.std.proofs.lemmas.List.{length-append}
 use Rattle.std.proofs.Math.Seq.{take-add, take-length}
 use Rattle.cov_outside.specs.Outside.{Files, Reads}
 use Rattle.cov_outside.specs.declared.faults.CallFault.{CallFault}
@@ -80,11 +81,15 @@ created_fault name_of file fresh bytes fault x y z h k =
     let more : AppendsAll fresh (Err fault) bytes y z = subst (λ n. AppendsAll n (Err fault) bytes y z) h.0 k in
     λ other apart. more [] h.1.there other apart ∙ h.1.others other apart
 
+-- the name beside a name is another
+beside_apart : (name : List ℕ) → beside name ≢ name
+beside_apart name same = omega (arith, ap length same, length-append name (codes ".new"))
+
 -- the new file renamed
 pub renamed_whole : (fresh name bytes : List ℕ) (result : Result (Unit {0}) CallFault) (x y z : Files) → fresh ≡ beside name → Puts fresh bytes x y → Renames fresh name result y z → ReplacesFile name bytes result x z
 renamed_whole fresh name bytes (Ok done) x y z e h k = record {
   there = k.moved ∙ h.there;
-  gone = subst (λ n. z n ≡ None) e k.gone;
+  gone = subst (λ n. z n ≡ None) e (k.gone (λ same. beside_apart name (sym e ∙ same)));
   others = λ other from to. k.others other (λ f. from (f ∙ e)) to ∙ h.others other (λ f. from (f ∙ e));
 }
 renamed_whole fresh name bytes (Err fault) x y z e h k = λ other apart. k other ∙ h.others other (λ f. apart (f ∙ e))

@@ -1,4 +1,5 @@
 pub mod Causes
+mod ChangeLaws
 mod FileLaws
 mod Files
 mod ReadSoFar

@@ -60,10 +60,10 @@ abbrev pub Appends : List ℕ → Result ℕ CallFault → List ℕ → Files �
 Appends name (Ok n) piece before after = (old : List ℕ) → before name ≡ Some old → Puts name (old ++ take n piece) before after
 Appends name (Err fault) piece before after = (other : List ℕ) → after other ≡ before other
 
--- The one file is now under the other name, where it replaced what was there.
+-- The one file is now under the other name, where it replaced what was there; under its own it is gone, where the names differ.
 pub record Renamed (from to : List ℕ) (before after : Files) : Type 0 where
   pub moved : after to ≡ before from
-  pub gone : after from ≡ None
+  pub gone : from ≢ to → after from ≡ None
   pub others : (other : List ℕ) → other ≢ from → other ≢ to → after other ≡ before other
 
 -- what renaming a file does; after a fault the files stand

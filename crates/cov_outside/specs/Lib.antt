@@ -1,3 +1,4 @@
+pub mod Changes
 pub mod FileCalls
 pub mod Memory
 pub mod Outside

@@ -33,6 +33,26 @@ pub enum LoadFault {
     NoMemory,
 }
 
+impl From<AllocError> for CallFault {
+    ghost use Rattle.cov_outside.specs.declared.faults.CallFault.TheVariants.{NoMemory};
+
+    ghost from_gives = { λ _ fault. fault ≡ NoMemory };
+
+    fn from(_: AllocError) -> CallFault {
+        CallFault::NoMemory
+    }
+}
+
+impl<T: Drop> From<AllocFailed<T>> for CallFault {
+    ghost use Rattle.cov_outside.specs.declared.faults.CallFault.TheVariants.{NoMemory};
+
+    ghost from_gives = { λ _ fault. fault ≡ NoMemory };
+
+    fn from(_: AllocFailed<T>) -> CallFault {
+        CallFault::NoMemory
+    }
+}
+
 impl From<AllocError> for SinkFault {
     ghost use Rattle.cov_outside.specs.declared.faults.SinkFault.TheVariants.{NoMemory};
 

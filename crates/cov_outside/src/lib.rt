@@ -2,6 +2,7 @@
 #![tactic(auto)]
 
 mod calls;
+mod change_log;
 mod directory;
 mod faults;
 mod file_calls;
@@ -16,6 +17,7 @@ mod sure;
 mod system_files;
 #[cfg(test)]
 mod tests;
+mod told_files;
 mod wants;
 mod whole_files;
 mod written_bytes;
