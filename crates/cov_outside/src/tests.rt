@@ -1,3 +1,6 @@
+use crate::faults::CallFault;
+use crate::told_files::ToldFiles;
+use crate::whole_files::{load_file, replace_file};
 use crate::{
     DirFolder, Failed, Folder, LoadFault, MemFolder, MemSink, MemSource, Sink, SinkFault, Source,
     StdErr, StdSink, StdSource, SureFolder, SureSink, SureSource, write_all,
@@ -202,5 +205,33 @@ fn the_current_folder_is_a_folder(rt: HostRuntime) -> Result<(), Fail> {
     assert_eq!(rt; folder.replace("no/b", b""), Err(SinkFault::Failed));
     fs::remove_file(&rt, "b")?;
     fs::remove_file(&rt, "c")?;
+    Ok(())
+}
+
+#[test]
+fn a_replaced_file_is_the_old_or_the_new(rt: HostRuntime) -> Result<(), Fail> {
+    let alloc = rt.alloc();
+    // The call that fails (0 to 3 put the old file), its fault, and what the second replace answers.
+    let rows = [
+        (4, CallFault::Failed, Err(SinkFault::Failed)),
+        (5, CallFault::Failed, Err(SinkFault::Failed)),
+        (5, CallFault::Interrupted, Ok(())),
+        (6, CallFault::Failed, Err(SinkFault::Failed)),
+        (7, CallFault::Failed, Err(SinkFault::Failed)),
+        (7, CallFault::NoMemory, Err(SinkFault::NoMemory)),
+        (99, CallFault::Failed, Ok(())),
+    ];
+    for (call, fault, answer) in rows {
+        let mut files = ToldFiles::new(alloc, calls(alloc, &[call])?, fault);
+        assert_eq!(rt; replace_file(alloc, &mut files, "a", b"old"), Ok(()));
+        assert_eq!(rt; replace_file(alloc, &mut files, "a", b"new"), answer);
+        let found = load_file(alloc, &mut files, "a", 3)
+            .ok()
+            .flatten()
+            .ok_or("no file a")?;
+        let kept = if answer.is_ok() { b"new" } else { b"old" };
+        assert_eq!(rt; found.as_slice(), kept.as_slice());
+        assert!(rt; load_file(alloc, &mut files, "a.new", 3) == Ok(None));
+    }
     Ok(())
 }
