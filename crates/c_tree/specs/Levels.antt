@@ -8,6 +8,7 @@ use Rattle.c_tree.specs.TypedExpr.{TypedExpr, TypedKind, TypedExprs}
 use Rattle.c_tree.specs.TypedStmt.{TypedInit, TypedStmt, OtherTyped, TypedForHead, TypedStmts, TypedItem, TypedItems}
 use Rattle.c_tree.specs.Typed.{Typed}
 
+-- the levels of an expression: one more than those of its deepest part
 abbrev mutual
   -- those of an expression
   pub levels : Expr → ℕ
@@ -65,6 +66,7 @@ init_levels (Init.Several es) = most levels es
 abbrev pub var_levels : Var → ℕ
 var_levels v = max (size_levels v.size) (init_levels v.init)
 
+-- the levels of a statement: one more than those of its deepest part
 abbrev mutual
   -- those of a statement
   pub stmt_levels : Stmt → ℕ
@@ -116,6 +118,7 @@ outer_levels (Outer.Function head body) = stmts_levels body
 abbrev pub tree_levels : Tree → ℕ
 tree_levels t = most outer_levels t.outers
 
+-- the levels of a typed expression: a conversion that the source doesn't write adds none
 abbrev mutual
   -- the same of a typed expression
   pub typed_levels : TypedExpr → ℕ
@@ -159,6 +162,7 @@ typed_init_levels TypedInit.Absent = 0
 typed_init_levels (TypedInit.One e) = typed_levels e
 typed_init_levels (TypedInit.Several es) = most typed_levels es
 
+-- the levels of a typed statement: one more than those of its deepest part
 abbrev mutual
   -- the same of a typed statement
   pub typed_stmt_levels : TypedStmt → ℕ

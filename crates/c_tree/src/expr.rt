@@ -21,8 +21,8 @@ pub struct Expr {
     pub line: u32,
 }
 
-/// The form of an expression. A call stands at the called name, an index at its `[`, parentheses and a cast at their
-/// `(`, and `?:` at its `?`.
+/// The form of an expression. A call stands at the called name, an index at its `[`, parentheses
+/// and a cast at their `(`, and `?:` at its `?`.
 #[derive(Debug, Drop)]
 #[cycle(expr)]
 pub enum ExprKind {

@@ -34,7 +34,8 @@ pub struct Var {
     pub line: u32,
 }
 
-/// A statement or a declaration in a function. The numbers at the end of some are place and line of their word.
+/// A statement or a declaration in a function. The numbers at the end of some are place and line of
+/// their word.
 #[derive(Debug, Drop)]
 #[cycle(stmt)]
 pub enum Stmt {

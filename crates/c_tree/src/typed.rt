@@ -7,7 +7,8 @@ use crate::typed_stmt::TypedStmt;
 use int_ops::IntType;
 use sqlite_items::Items;
 
-/// A function. Its cells are numbered in the order of the text, parameters first; an array takes as many as its length.
+/// A function. Its cells are numbered in the order of the text, parameters first; an array takes as
+/// many as its length.
 #[derive(Debug, Drop)]
 pub struct TypedFunction {
     pub name: Ident,
@@ -19,8 +20,8 @@ pub struct TypedFunction {
     pub body: Items<TypedStmt>,
 }
 
-/// A source: its functions in the order of their definitions, the numbers that its globals begin with, and the number
-/// of `main`.
+/// A source: its functions in the order of their definitions, the numbers that its globals begin
+/// with, and the number of `main`.
 #[derive(Debug, Drop)]
 pub struct Typed {
     pub functions: Items<TypedFunction>,

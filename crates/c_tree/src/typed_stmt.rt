@@ -12,7 +12,8 @@ pub enum TypedInit {
     List(Items<TypedExpr>),
 }
 
-/// A local variable: its first cell, its length where it is an array, and the place and line of its name.
+/// A local variable: its first cell, its length where it is an array, and the place and line of its
+/// name.
 #[derive(Debug, Drop)]
 pub struct TypedVar {
     pub cell: u64,
@@ -23,7 +24,8 @@ pub struct TypedVar {
     pub line: u32,
 }
 
-/// A statement or a declaration in a function. The numbers at the end of some are place and line of their word.
+/// A statement or a declaration in a function. The numbers at the end of some are place and line of
+/// their word.
 #[derive(Debug, Drop)]
 #[cycle(typed_stmt)]
 pub enum TypedStmt {

@@ -25,8 +25,8 @@ fn main(rt: HostRuntime) -> ExitCode {
     ExitCode::from(status)
 }
 
-/// Does what the words ask for over this outside, and gives the exit status of the answer. Where there
-/// are no words, it tells why.
+/// Does what the words ask for over this outside, and gives the exit status of the answer. Where
+/// there are no words, it tells why.
 fn finish<S: Source, K: Sink, E: Sink, F: Folder>(
     alloc: Global,
     words: Result<Vec<String>, End>,

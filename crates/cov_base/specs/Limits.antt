@@ -37,6 +37,10 @@ block_limit = 512
 abbrev pub arc_limit : ℕ
 arc_limit = 4096
 
+-- the size of a unit of graphs: its operations, its endings and 8 for each arc
+abbrev pub unit_limit : ℕ
+unit_limit = 1048576
+
 -- the calls that are under way at once, that of `main` among them
 abbrev pub frame_limit : ℕ
 frame_limit = 2000

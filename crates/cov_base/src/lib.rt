@@ -10,7 +10,8 @@ mod reach;
 pub mod refusal;
 
 pub use limits::{
-    ARC_LIMIT, BLOCK_LIMIT, DEFAULT_TURNS, FILE_LIMIT, LEVEL_LIMIT, OUTPUT_LIMIT, SOURCE_LIMIT,
+    ARC_LIMIT, ARRAY_LIMIT, BLOCK_LIMIT, DEFAULT_TURNS, FILE_LIMIT, LEVEL_LIMIT, OUTPUT_LIMIT,
+    PARAMETER_LIMIT, SOURCE_LIMIT, UNIT_LIMIT,
 };
 pub use net::{ArcKind, FlowArc, Net, NetFault, falls};
 pub use no_memory::NoMemory;

@@ -36,7 +36,8 @@ pub enum NetFault {
     Blocks(u32),
     /// The number of arcs, which is above 4,096.
     Arcs(u32),
-    /// The index of an arc with an end that is no block, or that goes into the entry or out of the exit.
+    /// The index of an arc with an end that is no block, or that goes into the entry or out of the
+    /// exit.
     Range(u32),
     /// The index of an arc that is not greater, by its ends, than the one before it.
     Order(u32),
@@ -83,7 +84,8 @@ impl Model for Net {
 
 impl Net {
     /// Makes a net of 3 to 512 blocks, at most 4,096 arcs in ascending order by their ends, and one
-    /// list of lines a block. A refusal tells the first fault; only the marks of reached blocks take memory.
+    /// list of lines a block. A refusal tells the first fault; only the marks of reached blocks
+    /// take memory.
     pub fn new(
         alloc: Global,
         blocks: u32,
@@ -132,7 +134,8 @@ impl Net {
     }
 }
 
-/// Whether control falls through along the arc: it is real, and leaves the entry or enters the next block.
+/// Whether control falls through along the arc: it is real, and leaves the entry or enters the next
+/// block.
 pub fn falls(arc: &FlowArc) -> bool
     ensures { result ≡ spec.falls arc.now }
 {

@@ -5,8 +5,8 @@ ghost use Rattle.cov_outside.specs.Stores.{fails_next, log_call, new_log};
 
 use std::marker::Model;
 
-/// The numbers of the calls that fail, the number of the next call, and the count of faults. Both stay at
-/// the greatest number once they are there.
+/// The numbers of the calls that fail, the number of the next call, and the count of faults. Both
+/// stay at the greatest number once they are there.
 #[derive(Drop)]
 pub(crate) struct Calls {
     fails: Vec<u64>,

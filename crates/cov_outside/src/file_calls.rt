@@ -51,7 +51,8 @@ pub(crate) trait FileCalls {
         ensures stands { files self.new ≡ files self.old }
         ensures cause { HasCause (faults self.old) (faults self.new) (IsCallFault result) };
 
-    /// Takes the next bytes of a file, and says how many. None for a piece that isn't empty is the end.
+    /// Takes the next bytes of a file, and says how many. None for a piece that isn't empty is the
+    /// end.
     fn read(&mut self, file: &mut Self::File, into: &mut [u8]) -> Result<usize, CallFault>
         ensures fits { IfOk result (λ n. n ≤ length into.new) }
         ensures reads { Reads (unread file.old) (unread file.new) result into.new }
@@ -63,8 +64,8 @@ pub(crate) trait FileCalls {
         ensures creates { Told (Creates name_of name.now result) (files self.old) (files self.new) }
         ensures cause { HasCause (faults self.old) (faults self.new) (IsCallFault result) };
 
-    /// Puts the first bytes of the piece at the end of a created file, and says how many: at least one, if the
-    /// piece isn't empty.
+    /// Puts the first bytes of the piece at the end of a created file, and says how many: at least
+    /// one, if the piece isn't empty.
     fn write(&mut self, file: &mut Self::File, piece: &[u8]) -> Result<usize, CallFault>
         ensures fits { IfOk result (λ n. n ≤ length piece.now) }
         ensures goes { IfOk result (λ n. 0 < length piece.now → 0 < n) }
@@ -79,8 +80,9 @@ pub(crate) trait FileCalls {
         ensures stands { files self.new ≡ files self.old }
         ensures cause { HasCause (faults self.old) (faults self.new) (IsCallFault result) };
 
-    /// Closes a created file and puts it under another name, in place of one of that name. A file that may not
-    /// be on the disk yet isn't renamed: where the machine stops, the name would have neither file.
+    /// Closes a created file and puts it under another name, in place of one of that name. A file
+    /// that may not be on the disk yet isn't renamed: where the machine stops, the name would have
+    /// neither file.
     fn rename(&mut self, file: Self::File, from: &str, to: &str) -> Result<(), CallFault>
         requires synced { is_synced file ≡ true }
         ensures renames { Told (Renames from.now to.now result) (files self.old) (files self.new) }

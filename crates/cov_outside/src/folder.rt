@@ -12,8 +12,8 @@ pub trait Folder {
     /// How many faults there were.
     ghost faults: { Self → ℕ };
 
-    /// The bytes under the name, at most `limit` of them. `None` where the name has no file, and `TooLong` where
-    /// its file is longer than the limit.
+    /// The bytes under the name, at most `limit` of them. `None` where the name has no file, and
+    /// `TooLong` where its file is longer than the limit.
     fn load(&mut self, name: &str, limit: usize) -> Result<Option<Vec<u8>>, LoadFault>
         ensures limit { IfOk result (λ found. IfSome found (λ bytes. length bytes.items ≤ limit)) }
         ensures loads { Loads (files self.old) name.now limit result }

@@ -1,4 +1,5 @@
-//! The edge to the outside: sources, sinks and folders by contract, in memory for tests, and over the real ones.
+//! The edge to the outside: sources, sinks and folders by contract, in memory for tests, and over
+//! the real ones.
 #![tactic(auto)]
 
 mod calls;

@@ -15,8 +15,8 @@ pub trait Sink {
     /// How often memory was wanting.
     ghost wants: { Self → ℕ };
 
-    /// Appends the first bytes of the piece, and says how many: at least one, if the piece isn't empty.
-    /// After a fault nothing was taken.
+    /// Appends the first bytes of the piece, and says how many: at least one, if the piece isn't
+    /// empty. After a fault nothing was taken.
     fn write(&mut self, piece: &[u8]) -> Result<usize, SinkFault>
         ensures fits { IfOk result (λ n. n ≤ length piece.now) }
         ensures goes { IfOk result (λ n. 0 < length piece.now → 0 < n) }

@@ -12,8 +12,8 @@ pub trait Source {
     /// How many faults there were.
     ghost faults: { Self → ℕ };
 
-    /// Takes the next bytes into the front of `into`, and says how many. None for a piece that isn't empty
-    /// is the end. After `Failed` nothing was taken.
+    /// Takes the next bytes into the front of `into`, and says how many. None for a piece that
+    /// isn't empty is the end. After `Failed` nothing was taken.
     fn read(&mut self, into: &mut [u8]) -> Result<usize, Failed>
         ensures fits { IfOk result (λ n. n ≤ length into.new) }
         ensures reads { Reads (remaining self.old) (remaining self.new) result into.new }

@@ -62,7 +62,8 @@ impl<W: Write> Sink for StdSink<W> {
 
     ghost wants = { λ s. 0 };
 
-    /// A writer that takes none of a piece that isn't empty has failed. An interrupted write is tried again.
+    /// A writer that takes none of a piece that isn't empty has failed. An interrupted write is
+    /// tried again.
     fn write(&mut self, piece: &[u8]) -> Result<usize, SinkFault> {
         for _ in 0..u64::MAX {
             match self.writer.write(piece) {

@@ -211,7 +211,8 @@ fn the_current_folder_is_a_folder(rt: HostRuntime) -> Result<(), Fail> {
 #[test]
 fn a_replaced_file_is_the_old_or_the_new(rt: HostRuntime) -> Result<(), Fail> {
     let alloc = rt.alloc();
-    // The call that fails (0 to 3 put the old file), its fault, and what the second replace answers.
+    // The call that fails (0 to 3 put the old file), its fault, and what the second replace
+    // answers.
     let rows = [
         (4, CallFault::Failed, Err(SinkFault::Failed)),
         (5, CallFault::Failed, Err(SinkFault::Failed)),

@@ -92,8 +92,8 @@ fn read_again<C: FileCalls>(
     answer
 }
 
-/// Puts the bytes under the name: writes a file beside, waits until it is on the disk, and renames it. Where the
-/// machine stops meanwhile, the name has the old bytes or the new ones.
+/// Puts the bytes under the name: writes a file beside, waits until it is on the disk, and renames
+/// it. Where the machine stops meanwhile, the name has the old bytes or the new ones.
 pub(crate) fn replace_file<C: FileCalls>(
     alloc: Global,
     calls: &mut C,

@@ -15,9 +15,9 @@ use std::alloc::Global;
 
 /// Does what the words ask for, and says how it ended; `words` are those after the program's name.
 ///
-/// `cover SRC IN` loads the source SRC and the input IN from the folder, runs the source on the input, and writes
-/// the run's text and the report with the count of each source line to `out`. Where it doesn't end in `Done`, a line
-/// on `err` says why.
+/// `cover SRC IN` loads the source SRC and the input IN from the folder, runs the source on the
+/// input, and writes the run's text and the report with the count of each source line to `out`.
+/// Where it doesn't end in `Done`, a line on `err` says why.
 pub fn perform<S: Source, K: Sink, E: Sink, F: Folder>(
     alloc: Global,
     words: &[String],

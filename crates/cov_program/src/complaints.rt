@@ -7,7 +7,8 @@ ghost use Rattle.cov_program.specs.Answers.{line_of, words_of, name_of};
 use crate::answers::{End, SourceFault, UsageFault};
 use cov_outside::{Sink, SinkFault, write_all};
 
-/// Writes the line of the answer, if it has one. After a fault of the output a front of the line was written.
+/// Writes the line of the answer, if it has one. After a fault of the output a front of the line
+/// was written.
 pub fn tell<E: Sink>(end: &End, err: &mut E) -> Result<(), SinkFault>
     ensures line { WritesAll (E.written err.old) (E.written err.new) result (line_of end.now) }
     ensures cause { HasCause (E.faults err.old) (E.faults err.new)

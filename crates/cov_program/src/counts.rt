@@ -96,7 +96,8 @@ fn add_arc(net: &Net, arc: &FlowArc, counter: u64, counts: &mut [Option<u64>])
     add_to_lines(counter, net.lines(arc.from), net.lines(arc.to), counts);
 }
 
-/// Adds the counter of each arc to the counts of the lines that it comes to, where no line is counted yet.
+/// Adds the counter of each arc to the counts of the lines that it comes to, where no line is
+/// counted yet.
 fn add_arcs(net: &Net, counters: &[u64], counts: &mut [Option<u64>])
     requires fits { length counters.now ≡ length net.now.arcs }
     requires below { All (λ n. n < 2 ^ 50) counters.now }

@@ -55,8 +55,8 @@ pub fn cover<K: Sink, F: Folder>(
     }
 }
 
-/// Loads the source, reads its form and compiles it, loads the input, runs the source on it, counts the lines, and
-/// makes the text.
+/// Loads the source, reads its form and compiles it, loads the input, runs the source on it, counts
+/// the lines, and makes the text.
 fn cover_text<F: Folder>(
     alloc: Global,
     names: CoverWords<'_>,

@@ -8,7 +8,8 @@ use crate::graph::{Block, Exit};
 use cov_base::{ArcKind, FlowArc};
 use std::alloc::{AllocError, Global};
 
-/// The arcs of a graph's net: that from 0 to 2, and those that leave each block, in the order of the blocks.
+/// The arcs of a graph's net: that from 0 to 2, and those that leave each block, in the order of
+/// the blocks.
 pub fn arcs_of(alloc: Global, blocks: &[Block]) -> Result<Vec<FlowArc>, AllocError>
     requires { length blocks.now ≤ 510 }
     ensures { IfOk result (λ arcs. arcs.items ≡ (net_of (graph_seen blocks.now)).arcs) }

@@ -17,7 +17,8 @@ use std::alloc::{AllocError, Global};
 use std::marker::Model;
 use std::mem;
 
-/// The finished blocks, what the open block puts and its lines, and the number of the next source line.
+/// The finished blocks, what the open block puts and its lines, and the number of the next source
+/// line.
 #[derive(Drop)]
 pub struct Plan {
     blocks: Vec<Block>,
@@ -101,7 +102,8 @@ impl Plan {
         self.take_line()
     }
 
-    /// Adds the line that begins a loop with so many loops inside, and returns the number of its head.
+    /// Adds the line that begins a loop with so many loops inside, and returns the number of its
+    /// head.
     pub fn enter(&mut self, alloc: Global, byte: u8, loops: u32) -> Result<u32, AllocError>
         requires line { self.old.line < 2 ^ 31 }
         requires blocks { length self.old.done < 1000 }

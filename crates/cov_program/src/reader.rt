@@ -152,7 +152,8 @@ impl<'a> Reader<'a> {
     }
 }
 
-/// Reads the items of a body, up to where no item begins. None where no source of the first form goes on so.
+/// Reads the items of a body, up to where no item begins. None where no source of the first form
+/// goes on so.
 #[cycle(read)]
 fn read_items(alloc: Global, reader: &mut Reader<'_>) -> Result<Option<Items<Item>>, AllocError>
     ensures some { IfOk result (λ found. IfSome found
@@ -189,7 +190,8 @@ fn read_item(alloc: Global, reader: &mut Reader<'_>) -> Result<Next, AllocError>
     }
 }
 
-/// Reads the inside of a loop and its last line. None where no source of the first form goes on so, or this is loop 101.
+/// Reads the inside of a loop and its last line. None where no source of the first form goes on so,
+/// or this is loop 101.
 #[cycle(read)]
 fn read_block(alloc: Global, reader: &mut Reader<'_>) -> Result<Option<Items<Item>>, AllocError>
     ensures some { IfOk result (λ found. IfSome found

@@ -122,7 +122,8 @@ fn line_count(counts: &[Option<u64>], number: usize) -> Option<u64>
     counts.get(number).copied().unwrap_or(None)
 }
 
-/// Appends each source line with its count; `counts` holds the count of line n at n, and none past its end.
+/// Appends each source line with its count; `counts` holds the count of line n at n, and none past
+/// its end.
 pub fn push_report_lines(
     alloc: Global,
     out: &mut Vec<u8>,

@@ -2,17 +2,13 @@
 use Rattle.std.specs.Prelude.{◌≡◌, ℕ, suc, ◌+◌, ◌-◌, ◌^◌, min, nat_lt, cond, List, [], ◌∷◌, length, Option, Some, None}
 use Rattle.std.specs.Prelude.{Result, Ok, Err}
 use Rattle.std.specs.Option.{option_or}
-use Rattle.cov_base.specs.Limits.{block_limit, arc_limit}
+use Rattle.cov_base.specs.Limits.{block_limit, arc_limit, unit_limit}
 use Rattle.cov_base.specs.declared.refusal.Refusal.{Refusal}
 use Rattle.cov_base.specs.declared.refusal.Refusal.TheVariants as refusal
 use Rattle.flow_graph.specs.Graph.{Graph, GraphUnit}
 use Rattle.flow_graph.specs.Nets.{pruned_graph, pruned, net_of, size_of}
 use Rattle.fake_arcs.specs.declared.pruning.SizeFault.{SizeFault}
 use Rattle.fake_arcs.specs.declared.pruning.SizeFault.TheVariants as fault
-
--- the size of a unit
-abbrev pub unit_limit : ℕ
-unit_limit = 1048576
 
 -- a count stands still at 2 ^ 64 - 1
 abbrev pub counted : ℕ → ℕ

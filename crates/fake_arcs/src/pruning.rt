@@ -13,12 +13,9 @@ use crate::counts::count;
 use crate::marking::mark_reached;
 use crate::numbers::Numbers;
 use c_tree::Ident;
-use cov_base::{ARC_LIMIT, BLOCK_LIMIT, Refusal};
+use cov_base::{ARC_LIMIT, BLOCK_LIMIT, Refusal, UNIT_LIMIT};
 use flow_graph::{Block, Graph, GraphUnit};
 use std::alloc::{AllocError, Global};
-
-/// The size of a unit.
-const UNIT_LIMIT: u64 = 1_048_576;
 
 /// What of a pruned unit is above its limit. A count stands still at 2^64 - 1.
 #[derive(Clone, Copy, Debug, PartialEq, Eq)]

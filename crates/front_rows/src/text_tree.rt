@@ -20,8 +20,8 @@ pub enum TextFault {
     Parse(ParseFault),
 }
 
-/// The tree of a text of at most `SOURCE_LIMIT` bytes. Its refusal is `Lex` where a fault stands in the text, `Parse` where no tree of at
-/// most 256 levels derives its tokens, or want of memory.
+/// The tree of a text of at most `SOURCE_LIMIT` bytes. Its refusal is `Lex` where a fault stands in
+/// the text, `Parse` where no tree of at most 256 levels derives its tokens, or want of memory.
 #[tactic(auto, using(crate::proofs::TextTreeLaws::is_tree, crate::proofs::TextTreeLaws::not_split, crate::proofs::TextTreeLaws::memory))]
 pub fn tree_of_text(alloc: Global, text: &[u8]) -> Result<Tree, Refusal<TextFault>>
     requires { length text.now ≤ SOURCE_LIMIT }

@@ -17,9 +17,9 @@ use crate::operators::{ArithTrap, BinOp, UnOp};
 use crate::ranges::{convert, is_in_range, is_signed, width};
 use crate::types::IntType;
 
-/// What an operator gives at a type. Both operands are from -2^63 to 2^64 - 1 and are converted to the type first,
-/// but for a shift's right one. A comparison gives 0 or 1. Otherwise an exact result outside a signed type is a trap,
-/// and one of an unsigned type or `_Bool` is converted.
+/// What an operator gives at a type. Both operands are from -2^63 to 2^64 - 1 and are converted to
+/// the type first, but for a shift's right one. A comparison gives 0 or 1. Otherwise an exact
+/// result outside a signed type is a trap, and one of an unsigned type or `_Bool` is converted.
 pub fn binary(op: BinOp, t: IntType, a: i128, b: i128) -> Result<i128, ArithTrap>
     requires left { IsNumber a }
     requires right { IsNumber b }
@@ -29,8 +29,8 @@ pub fn binary(op: BinOp, t: IntType, a: i128, b: i128) -> Result<i128, ArithTrap
     let left = convert(t, a);
     let right = convert(t, b);
 
-    // The table of operators: those whose exact result a function of two numbers gives, the comparisons, and those
-    // with rules of their own.
+    // The table of operators: those whose exact result a function of two numbers gives, the
+    // comparisons, and those with rules of their own.
     macro_rules! by_operator {
         (
             exact { $($exact:ident $of:ident)* }
@@ -47,11 +47,14 @@ pub fn binary(op: BinOp, t: IntType, a: i128, b: i128) -> Result<i128, ArithTrap
     by_operator!(
         exact { Add sum Sub difference And bits_of_both Xor bits_of_one Or bits_of_any }
         tests { Less < Greater > LessEqual <= GreaterEqual >= Equal == NotEqual != }
-        own { Mul multiply right Div divide right Rem take_rest right Shl shift_left b Shr shift_right b }
+        own {
+            Mul multiply right Div divide right Rem take_rest right Shl shift_left b Shr shift_right b
+        }
     )
 }
 
-/// What an operator with one operand gives at a type, to which the operand, from -2^63 to 2^64 - 1, is converted first.
+/// What an operator with one operand gives at a type, to which the operand, from -2^63 to 2^64 - 1,
+/// is converted first.
 pub fn unary(op: UnOp, t: IntType, a: i128) -> Result<i128, ArithTrap>
     requires { IsNumber a }
     ensures value { result ≡ spec.unary op t a }

@@ -5,7 +5,8 @@ ghost use Rattle.int_ops.specs.Ranges.{least_at, greatest_at, RangeAt};
 ghost use Rattle.int_ops.specs.Conversion.{ConvAt, conv_at};
 ghost use Rattle.int_ops.specs.Widths.{IsWidth};
 
-/// A number of BITS bits, signed where SIGNED is 1 and unsigned where it is 0. BITS is 8, 16, 32 or 64.
+/// A number of BITS bits, signed where SIGNED is 1 and unsigned where it is 0. BITS is 8, 16, 32 or
+/// 64.
 #[derive(Clone, Copy)]
 pub struct Num<const BITS: u32, const SIGNED: u32> {
     number: i128,
@@ -35,7 +36,8 @@ impl<const BITS: u32, const SIGNED: u32> Num<BITS, SIGNED> {
     }
 }
 
-/// The number of so many bits, signed or not, that differs from n by a multiple of 2 to their number.
+/// The number of so many bits, signed or not, that differs from n by a multiple of 2 to their
+/// number.
 fn wrapped(n: i128, bits: u32, signed: u32) -> i128
     requires bits { IsWidth bits }
     requires signed { signed < 2 }

@@ -1,4 +1,5 @@
-//! Tests of the operations over operands, cells, input and output in memory; and operators by way of the stack machine.
+//! Tests of the operations over operands, cells, input and output in memory; and operators by way
+//! of the stack machine.
 #![tactic(auto)]
 
 mod operator_steps;

@@ -51,8 +51,9 @@ fn two_on_a_stack(alloc: Global, left: i128, right: i128) -> Result<OpStack, NoM
     Ok(stack)
 }
 
-/// What the stack machine makes of an operator on two operands, which are from -2^63 to 2^64 - 1: the number or the trap that the
-/// operator gives at the type. `NoMemory` may come instead of either.
+/// What the stack machine makes of an operator on two operands, which are from -2^63 to 2^64 - 1:
+/// the number or the trap that the operator gives at the type. `NoMemory` may come instead of
+/// either.
 pub fn by_stack(
     alloc: Global,
     op: BinOp,

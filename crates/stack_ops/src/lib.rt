@@ -1,4 +1,5 @@
-//! The operations of a stack machine: their table, the operands, input and output that they act on, and one step.
+//! The operations of a stack machine: their table, the operands, input and output that they act on,
+//! and one step.
 
 #![tactic(auto)]
 

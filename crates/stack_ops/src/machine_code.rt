@@ -3,7 +3,8 @@
 use crate::operation::Op;
 use std::marker::Model;
 
-/// The functions of a program, its globals as they are at the start, and the number of the main function.
+/// The functions of a program, its globals as they are at the start, and the number of the main
+/// function.
 #[derive(Drop)]
 pub struct Code {
     pub stamp: u32,
@@ -28,7 +29,8 @@ impl Model for Code {
     } };
 }
 
-/// A function: its parameters come into the first of its cells, its operands have room for its depth.
+/// A function: its parameters come into the first of its cells, its operands have room for its
+/// depth.
 #[derive(Drop)]
 pub struct FunctionCode {
     pub params: u32,

@@ -2,8 +2,8 @@
 
 use int_ops::IntType;
 
-/// An operation. The forty-seven are coded 0 to 46, in this order. Where an operation may trap, the line of its trap stands last;
-/// loads and stores of elements trap at line 0.
+/// An operation. The forty-seven are coded 0 to 46, in this order. Where an operation may trap, the
+/// line of its trap stands last; loads and stores of elements trap at line 0.
 #[derive(Clone, Copy, Debug, PartialEq, Eq)]
 pub enum Op {
     /// Gives the number.

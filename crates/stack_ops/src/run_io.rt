@@ -7,7 +7,8 @@ use cov_base::NoMemory;
 use std::alloc::Global;
 use std::marker::Model;
 
-/// The bytes of the input with a place in them, and the output within a limit whose room was taken before.
+/// The bytes of the input with a place in them, and the output within a limit whose room was taken
+/// before.
 #[derive(Drop)]
 pub struct RunIo {
     alloc: Global,

@@ -15,8 +15,8 @@ use crate::operator_steps::{binary_step, unary_step};
 use crate::run_io::RunIo;
 use crate::stream_steps::stream_step;
 
-/// Does one operation that acts on these lists alone: none that jumps, calls, ends or counts, and none that marks paths.
-/// A trap comes with its line and changes nothing.
+/// Does one operation that acts on these lists alone: none that jumps, calls, ends or counts, and
+/// none that marks paths. A trap comes with its line and changes nothing.
 pub fn step_op(
     op: &Op,
     stack: &mut OpStack,
