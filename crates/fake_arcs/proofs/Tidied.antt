@@ -103,7 +103,7 @@ target_to f Ending.Exit t m = absurd (cc)
 
 -- ---- where a block of a pruned graph comes from
 
-record Origin (kept : List ℕ) (r n : ℕ) (bs : List Block) (k : ℕ) (b : Block) : Type 0 where
+pub record Origin (kept : List ℕ) (r n : ℕ) (bs : List Block) (k : ℕ) (b : Block) : Type 0 where
   pub at : ℕ
   pub old : Block
   pub there : slice_get bs at ≡ Some old
@@ -111,7 +111,7 @@ record Origin (kept : List ℕ) (r n : ℕ) (bs : List Block) (k : ℕ) (b : Blo
   pub same : b ≡ with_numbers kept old
   pub rank : rank_from r (kept_of kept n bs) (n + at) ≡ r + k
 
-origin : (kept : List ℕ) (r n : ℕ) (bs : List Block) (k : ℕ) (b : Block) → slice_get (kept_blocks kept n bs) k ≡ Some b
+pub origin : (kept : List ℕ) (r n : ℕ) (bs : List Block) (k : ℕ) (b : Block) → slice_get (kept_blocks kept n bs) k ≡ Some b
     → Origin kept r n bs k b
 origin kept r n [] k b at = absurd (let never : None ≡ Some b = at in cc)
 origin kept r n (x ∷ bs) k b at = go (among n kept) refl k at (λ s k. origin kept s (suc n) bs k b)

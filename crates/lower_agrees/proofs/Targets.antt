@@ -549,7 +549,7 @@ Later l (Item.Begin n line ∷ is) = (l ≡ n) ⊎ Later l is
 Later l (Item.Do o line ∷ is) = Later l is
 Later l (Item.End c line ∷ is) = Later l is
 
-later_still : (l : Name) (i : Item) (is : List Item) → Later l is → Later l (i ∷ is)
+pub later_still : (l : Name) (i : Item) (is : List Item) → Later l is → Later l (i ∷ is)
 later_still l (Item.Begin n line) is h = inr h
 later_still l (Item.Do o line) is h = h
 later_still l (Item.End c line) is h = h
@@ -586,14 +586,14 @@ behind_left l Close.Quit line later h = inr h
 
 mutual
   -- a block that begins among the items is one of those that are made of them
-  behind_opened : (l : Name) (gives : Bool) (is : List Item) → Later l is → Behind l (opened gives is).later
+  pub behind_opened : (l : Name) (gives : Bool) (is : List Item) → Later l is → Behind l (opened gives is).later
   behind_opened l gives [] h = absurd h
   behind_opened l gives (Item.Begin n line ∷ is) (inl e) = inl (ap (λ (k : Name). Some k) (sym e))
   behind_opened l gives (Item.Begin n line ∷ is) (inr h) = inr (behind_opened l gives is h)
   behind_opened l gives (Item.Do o line ∷ is) h = behind_opened l gives is h
   behind_opened l gives (Item.End c line ∷ is) h = behind_shut l gives is h
 
-  behind_shut : (l : Name) (gives : Bool) (is : List Item) → Later l is → Behind l (shut gives is)
+  pub behind_shut : (l : Name) (gives : Bool) (is : List Item) → Later l is → Behind l (shut gives is)
   behind_shut l gives [] h = absurd h
   behind_shut l gives (Item.Begin n line ∷ is) (inl e) = inl (ap (λ (k : Name). Some k) (sym e))
   behind_shut l gives (Item.Begin n line ∷ is) (inr h) = inr (behind_opened l gives is h)

@@ -33,7 +33,7 @@ above_zero : (lines : List ℕ) → Each IsLine lines → Each (λ n. 0 < n) lin
 above_zero [] are = tt
 above_zero (line ∷ lines) are = (let first : 1 ≤ line = are.0.first in omega arith, above_zero lines are.1)
 
-function_made : (source : Typed) → Sound source → (k : ℕ) (f : TypedFunction) → slice_get source.functions k ≡ Some f
+pub function_made : (source : Typed) → Sound source → (k : ℕ) (f : TypedFunction) → slice_get source.functions k ≡ Some f
     → IsWellMade (graph_of f)
 function_made source sound k f at = record {
   some = omega arith;
