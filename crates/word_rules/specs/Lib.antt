@@ -1,0 +1,2 @@
+pub mod WordRules
+pub mod Laws
