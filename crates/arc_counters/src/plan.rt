@@ -30,8 +30,8 @@ impl Model for Plan {
 }
 
 /// Gives each arc of the net that is off its spanning tree a counter, in order of arcs. With B
-/// blocks
-/// and A arcs there are A - (B - 2) counters, and the numbers on these arcs determine those on all.
+/// blocks and A arcs there are A - (B - 2) counters, and the numbers on these arcs determine those
+/// on all.
 pub fn number(alloc: Global, net: &Net, tree: &SpanTree) -> Result<Plan, NoMemory>
     requires { tree.now ≡ arrivals net.now }
     ensures plan { IfOk result (λ p. p ≡ off net.now) }

@@ -15,8 +15,7 @@ number_behind r [] = r
 number_behind r (m ∷ marks) = number_behind (cond m (suc r) r) marks
 
 -- The new number of a block: the entry and the exit keep theirs, a marked block has that of the next marked one, and
--- each
--- other the number behind the last.
+-- each other the number behind the last.
 abbrev pub number_by : List Bool → ℕ → ℕ
 number_by marks t = cond (nat_lt t 2) t
     (cond (get_or marks (t - 2) false) (get_or (numbers_before 2 marks) (t - 2) 0) (number_behind 2 marks))

@@ -12,8 +12,7 @@ use flow_graph::{Block, Ending, Graph};
 use std::alloc::{AllocError, Global};
 
 /// The net of a graph: its blocks with their lines, an arc from the entry to block 2 and the arcs
-/// out
-/// of each block, and a call-exit arc from each block that ends in a call or an exit.
+/// out of each block, and a call-exit arc from each block that ends in a call or an exit.
 pub fn net_of(alloc: Global, graph: &Graph) -> Result<Net, NoMemory>
     requires { IsTidy graph.now }
     ensures { IfOk result (λ n. n ≡ net_seen graph.now) }

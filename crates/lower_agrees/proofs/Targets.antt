@@ -775,8 +775,7 @@ module _ (x : Site) where
       (each_there (front ++ n ∷ []) bs (e ∙ one_more front n bs) has.1 k b is)
 
 -- Each number in the ending of a block of a source's graph is that of a block of the graph behind its first, and that
--- of
--- a block behind its own where the ending isn't an arc back.
+-- of a block behind its own where the ending isn't an arc back.
 pub targets_stand : (source : Typed) (g : Graph) (b : Block) (at : IsBlockOf source g b) → EndsWell g at.place b.end
 targets_stand source g b at =
     let found = text_found source.functions at.function g at.graph in

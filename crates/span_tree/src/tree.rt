@@ -34,8 +34,7 @@ impl Model for SpanTree {
 }
 
 /// The spanning tree of the net, by breadth-first search from the exit: blocks are taken in order
-/// of
-/// arrival, and of a block taken the arcs in order, the unwritten arc from the exit to the entry
+/// of arrival, and of a block taken the arcs in order, the unwritten arc from the exit to the entry
 /// first.
 pub fn tree_of(alloc: Global, net: &Net) -> Result<SpanTree, NoMemory>
     ensures tree { IfOk result (λ t. t ≡ arrivals net.now) }
