@@ -4,10 +4,10 @@ use Rattle.std.specs.Prelude.{Contains}
 use Rattle.std.proofs.lemmas.List.Elements.{Contains-append_left, Contains-append_right}
 use Rattle.cov_base.specs.declared.refusal.Refusal.{Refusal}
 use Rattle.cov_base.specs.declared.refusal.Refusal.TheVariants as refusal
-use Rattle.c_types.specs.declared.fault.TypeFault.{TypeFault}
+use Rattle.c_typing.specs.declared.fault.TypeFault.{TypeFault}
 use Rattle.c_tree.specs.declared.expr.Base.{Base}
-use Rattle.c_types.specs.TypedForms.{is_void}
-use Rattle.c_types.specs.ExprFaults.{counted, wanted, sides}
+use Rattle.c_typing.specs.TypedForms.{is_void}
+use Rattle.c_typing.specs.ExprFaults.{counted, wanted, sides}
 use Rattle.c_types.specs.Checks.{Stands}
 
 pub in_left : (fs gs : List TypeFault) (e : Refusal TypeFault) → Stands fs e → Stands (fs ++ gs) e

@@ -1,19 +1,4 @@
-pub mod Cells
+pub mod ArgLaws
 pub mod CheckLaws
-pub mod DeclSound
-pub mod ExprSound
-mod FaultRows
-pub mod FileSound
-pub mod FindLaws
-mod FineRows
-pub mod GlobalLaws
-pub mod HeadLaws
-pub mod LevelLaws
-pub mod MainLaws
-pub mod NameLaws
+pub mod ListLaws
 pub mod ScopeLaws
-pub mod SourceSound
-pub mod StmtSound
-mod Trees
-pub mod TypeLaws
-mod TypedRows

@@ -28,12 +28,12 @@ use Rattle.indexmap.specs.IndexMap.{insert_entry}
 use Rattle.c_tree.specs.declared.typed_expr.CellAt.{CellAt}
 use Rattle.c_tree.specs.declared.typed_expr.CellAt.TheVariants as cell
 use Rattle.c_tree.specs.Stmt.{Var, Stmt, OtherStmt, ForHead, Stmts, SwitchItem, SwitchItems}
-use Rattle.c_types.specs.declared.names.Meaning.{Meaning}
-use Rattle.c_types.specs.declared.names.Meaning.TheVariants as meant
-use Rattle.c_types.specs.Names.{Scope, Here, found, is_declared, declare, inner, leaving}
-use Rattle.c_types.specs.TypedForms.{number_type}
-use Rattle.c_types.specs.Declarations.{var_length, declare_var, declare_vars}
-use Rattle.c_types.specs.Statements.{after, after_other, after_head, after_all, after_item, after_items}
+use Rattle.c_typing.specs.declared.names.Meaning.{Meaning}
+use Rattle.c_typing.specs.declared.names.Meaning.TheVariants as meant
+use Rattle.c_typing.specs.Names.{Scope, Here, found, is_declared, declare, inner, leaving}
+use Rattle.c_typing.specs.TypedForms.{number_type}
+use Rattle.c_typing.specs.Declarations.{var_length, declare_var, declare_vars}
+use Rattle.c_typing.specs.Statements.{after, after_other, after_head, after_all, after_item, after_items}
 
 last_by : (b : Bool) (entry more : List ℕ × Meaning) (scope rest : Scope) (name : List ℕ) →
     (is_some (found name scope) ≡ false → rest ≡ scope ++ more ∷ [])

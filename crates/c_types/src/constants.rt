@@ -4,7 +4,7 @@ ghost use Rattle.std.specs.Prelude.{◌≡◌, IfSome};
 ghost use Rattle.int_ops.specs.Ranges.{IsNumber};
 ghost use Rattle.int_ops.specs.Apply.{binary, unary};
 ghost use Rattle.c_tree.specs.TypedView.{typed_expr_view};
-ghost use Rattle.c_types.specs.Constants as spec;
+ghost use Rattle.c_typing.specs.Constants as spec;
 
 use crate::forms::number_type;
 use c_tree::{Base, TypedExpr, TypedKind};

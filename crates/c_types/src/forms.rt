@@ -1,12 +1,12 @@
 //! The typed forms of expressions, made from their parts.
 
-ghost use Rattle.std.specs.Prelude.{◌≡◌, IfOk};
+ghost use Rattle.std.specs.Prelude.{◌≡◌, drop, IfOk};
 ghost use Rattle.c_tree.specs.declared.expr.Base.TheVariants as base;
 ghost use Rattle.c_tree.specs.TypedExpr.{TypedExpr as Plain, TypedKind as PlainKind};
 ghost use Rattle.c_tree.specs.TypedView.{typed_expr_view};
-ghost use Rattle.c_types.specs.Checks.{args_view};
+ghost use Rattle.c_types.specs.Checks.{passed_first, args_view};
 ghost use Rattle.c_tree.specs.TypedParts.{class, base_of};
-ghost use Rattle.c_types.specs.TypedForms as spec;
+ghost use Rattle.c_typing.specs.TypedForms as spec;
 
 use c_tree::{Base, Callee, CellAt, TypedExpr, TypedKind};
 use int_ops::{BinOp, IntType, common_type, promoted};
@@ -75,6 +75,21 @@ pub fn converted(alloc: Global, operand: TypedExpr, to: Base) -> Result<TypedExp
         place,
         line,
     })
+}
+
+/// An argument as the parameter at a place of these takes it.
+pub fn passed(
+    alloc: Global,
+    arg: TypedExpr,
+    params: &[Base],
+    at: usize,
+) -> Result<TypedExpr, AllocError>
+    ensures { IfOk result (λ e. typed_expr_view e ≡ passed_first (drop at params.now) (typed_expr_view arg)) }
+{
+    match params.get(at) {
+        Some(to) => converted(alloc, arg, *to),
+        None => Ok(arg),
+    }
 }
 
 /// A variable.

@@ -1,15 +1,10 @@
-//! The check of names and types: what names mean, the types of expressions, and the faults that a
-//! source can have.
+//! The check of names and types: it gives a source its typed form, or names a fault.
 
 #![tactic(auto)]
 
 mod constants;
-pub mod fault;
+mod expr;
 mod forms;
-mod laws;
-pub mod names;
 mod scopes;
 
-pub use fault::TypeFault;
-pub use laws::typed_sound;
-pub use names::Meaning;
+pub use c_typing::{Meaning, TypeFault};

@@ -2,10 +2,10 @@
 
 ghost use Rattle.std.specs.Prelude.{◌≡◌, ◌+◌, ◌≤◌, false, [], ◌∷◌, map, reverse, drop, length, OnOk};
 ghost use Rattle.std.specs.Option.{option_copied};
-ghost use Rattle.c_types.specs.Names as spec;
+ghost use Rattle.c_typing.specs.Names as spec;
 
-use crate::names::Meaning;
 use c_tree::Ident;
+use c_typing::Meaning;
 use indexmap::IndexMap;
 use std::alloc::{AllocError, Global};
 use std::marker::Model;
@@ -25,7 +25,7 @@ pub struct Scopes {
 
 impl Model for Scopes {
     ghost use Rattle.std.specs.Prelude.{◌∷◌, map, reverse};
-    ghost use Rattle.c_types.specs.Names.{Here};
+    ghost use Rattle.c_typing.specs.Names.{Here};
 
     ghost Value = { Here };
 

@@ -1,0 +1,10 @@
+pub mod Constants
+pub mod Declarations
+pub mod ExprFaults
+pub mod FaultWords
+pub mod Laws
+pub mod Names
+pub mod Sources
+pub mod Statements
+pub mod StmtFaults
+pub mod TypedForms
