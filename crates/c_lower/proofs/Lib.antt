@@ -1,11 +1,15 @@
 pub mod AddedLines
+pub mod ConditionLaws
+pub mod ElementLaws
 pub mod MadeLaws
 mod ExpressionRuns
 mod GraphRows
 pub mod NameLaws
 pub mod NameRanges
 pub mod OrderLaws
+pub mod PutsLaws
 pub mod StatementNames
+pub mod ViewLaws
 mod StatementRuns
 mod TrapRuns
 mod TypeRuns

@@ -13,6 +13,10 @@ pub record Making : Type 0 where
   pub ops : List Op
   pub lines : List ℕ
 
+-- no blocks; none is open
+abbrev pub no_blocks : Making
+no_blocks = record { done = []; is_open = false; name = None; ops = []; lines = [] }
+
 -- ascending lines, and lines that are added one after another
 abbrev pub with_lines : List ℕ → List ℕ → List ℕ
 with_lines lines [] = lines

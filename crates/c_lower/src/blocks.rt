@@ -5,7 +5,7 @@ ghost use Rattle.std.specs.Prelude.{◌≡◌, Bool, List, [], ◌∷◌, ◌++�
 ghost use Rattle.c_lower.specs.Items.{Item};
 ghost use Rattle.c_lower.specs.Items as items;
 ghost use Rattle.c_lower.specs.CloseView.{close_view};
-ghost use Rattle.c_lower.specs.Building.{Puts, after, open_with, close_with, ready, with_op_of, with_line_of, ends_shut, jumped};
+ghost use Rattle.c_lower.specs.Building.{Puts, no_blocks, after, open_with, close_with, ready, with_op_of, with_line_of, ends_shut, jumped};
 
 use crate::named::{Close, Label, NamedBlock};
 use flow_graph::lines::Lines;
@@ -42,7 +42,7 @@ impl Model for Blocks {
 impl Blocks {
     /// No blocks; none is open.
     pub fn new(alloc: Global) -> Blocks
-        ensures { result ≡ record { done = []; is_open = false; name = None; ops = []; lines = [] } }
+        ensures { result ≡ no_blocks }
     {
         Blocks {
             alloc,
@@ -52,6 +52,13 @@ impl Blocks {
             ops: Vec::new(alloc),
             lines: Lines::new(alloc),
         }
+    }
+
+    /// Blocks of their own, beside these; none is open.
+    pub fn apart(&self) -> Blocks
+        ensures { result ≡ no_blocks }
+    {
+        Blocks::new(self.alloc)
     }
 
     fn open(&mut self, name: Option<Label>)

@@ -7,6 +7,41 @@ ghost use Rattle.c_lower.specs.Items as items;
 use crate::named::Label;
 use std::alloc::AllocError;
 
+/// A node, and the line of its operator.
+#[derive(Clone, Copy, Debug)]
+pub struct Site {
+    pub node: u32,
+    pub line: u32,
+}
+
+impl Site {
+    /// This node and line.
+    pub fn new(node: u32, line: u32) -> Site
+        ensures { result ≡ record { node = node; line = line } }
+    {
+        Site { node, line }
+    }
+}
+
+/// Where a condition goes: to the first block where it isn't 0, and else to the second.
+#[derive(Clone, Copy, Debug)]
+pub struct Targets {
+    pub one: Label,
+    pub other: Label,
+}
+
+impl Targets {
+    /// The targets of `!`.
+    pub fn turned(self) -> Targets
+        ensures { result ≡ record { one = self.other; other = self.one } }
+    {
+        Targets {
+            one: self.other,
+            other: self.one,
+        }
+    }
+}
+
 /// The number of the node that begins here. No tree of a text has 2^32 nodes.
 pub fn take_node(next: &mut u32) -> Result<u32, AllocError>
     ensures number { IfOk result (λ m. m ≡ next.old) }
@@ -123,4 +158,44 @@ pub fn end(node: u32) -> Label
     ensures { result ≡ items.end_of node }
 {
     Label { node, part: 14 }
+}
+
+/// Where a condition goes that is taken as a value.
+pub fn truth(node: u32) -> Targets
+    ensures { result ≡ record { one = items.true_of node; other = items.false_of node } }
+{
+    Targets {
+        one: when_true(node),
+        other: when_false(node),
+    }
+}
+
+/// Where the first operand of `?:` goes.
+pub fn choices(node: u32) -> Targets
+    ensures { result ≡ record { one = items.second_of node; other = items.third_of node } }
+{
+    Targets {
+        one: second(node),
+        other: third(node),
+    }
+}
+
+/// Where the left side of `&&` goes.
+pub fn if_both(node: u32, to: Targets) -> Targets
+    ensures { result ≡ record { one = items.right_of node; other = to.other } }
+{
+    Targets {
+        one: right_side(node),
+        other: to.other,
+    }
+}
+
+/// Where the left side of `||` goes.
+pub fn if_either(node: u32, to: Targets) -> Targets
+    ensures { result ≡ record { one = to.one; other = items.right_of node } }
+{
+    Targets {
+        one: to.one,
+        other: right_side(node),
+    }
 }

@@ -2,11 +2,15 @@
 
 #![tactic(auto)]
 
+mod assignments;
 mod blocks;
+mod conditions;
+mod declarations;
 mod labels;
 mod laws;
 pub mod named;
 mod operations;
 mod pieces;
+mod values;
 
 pub use laws::found_by_number;

@@ -4,18 +4,28 @@ ghost use Rattle.std.specs.Prelude.{◌≡◌, ◌∷◌, Some, None, pos, OnOk}
 ghost use Rattle.int_ops.specs.declared.types.IntType.TheVariants as type;
 ghost use Rattle.c_tree.specs.TypedView.{typed_expr_view};
 ghost use Rattle.stack_ops.specs.declared.operation.Op.TheVariants as op;
-ghost use Rattle.c_lower.specs.Items.{Item, true_of, false_of, join_of, plainly};
+ghost use Rattle.c_lower.specs.Items.{Item, true_of, false_of, third_of, join_of, plainly};
 ghost use Rattle.c_lower.specs.Items as items;
 ghost use Rattle.c_lower.specs.Building.{Puts};
 
 use crate::blocks::Blocks;
 use crate::labels;
+use crate::labels::Site;
 use crate::named::Close;
-use crate::operations::{are_same, loads, named_on, operator, stores, type_in};
-use c_tree::{Base, Callee, TypedExpr, TypedKind};
+use crate::operations::{
+    are_same, cell_number, load_at, loads, named_on, operator, stores, type_in,
+};
+use c_tree::{Base, Callee, CellAt, TypedExpr, TypedKind};
 use int_ops::{BinOp, IntType};
 use stack_ops::Op;
 use std::alloc::AllocError;
+
+/// A number.
+pub fn push(out: &mut Blocks, number: i128, line: Option<u32>) -> Result<(), AllocError>
+    ensures { OnOk result (Puts out.old out.new (λ rest. Item.Do (op.Push number) line ∷ rest)) }
+{
+    out.put(Op::Push(number), line)
+}
 
 /// A conversion, where the two types differ.
 pub fn convert(out: &mut Blocks, from: IntType, to: IntType) -> Result<(), AllocError>
@@ -93,6 +103,39 @@ pub fn as_number(out: &mut Blocks, node: u32, line: u32) -> Result<(), AllocErro
 {
     one(out, node, line)?;
     zero(out, node, line)
+}
+
+/// The second operand of `?:` ends, and the third begins.
+pub fn third_choice(out: &mut Blocks, site: Site) -> Result<(), AllocError>
+    ensures { OnOk result (Puts out.old out.new
+        (λ rest. Item.End (items.Close.Jump (join_of site.node)) None ∷
+        Item.Begin (third_of site.node) (Some site.line) ∷ rest)) }
+{
+    out.end(Close::Jump(labels::join(site.node)), None)?;
+    out.begin(labels::third(site.node), Some(site.line))
+}
+
+/// The check of an index against the length of its array.
+pub fn check_index(out: &mut Blocks, length: u64, line: u32) -> Result<(), AllocError>
+    ensures { OnOk result (Puts out.old out.new
+        (λ rest. plainly (op.CheckIndex length line) rest)) }
+{
+    out.put(Op::CheckIndex(cell_number(length)?, line), None)
+}
+
+/// The element with an index, which is checked; the line of the array's name comes last.
+pub fn element(
+    out: &mut Blocks,
+    cell: CellAt,
+    length: u64,
+    line: u32,
+    named: u32,
+) -> Result<(), AllocError>
+    ensures { OnOk result (Puts out.old out.new (λ rest. plainly (op.CheckIndex length line)
+        (Item.Do (items.load_at cell length) (Some named) ∷ rest))) }
+{
+    check_index(out, length, line)?;
+    out.put(load_at(cell, length)?, Some(named))
 }
 
 /// An index is kept for the store behind the load.
