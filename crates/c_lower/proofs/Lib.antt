@@ -7,6 +7,7 @@ mod GraphRows
 pub mod NameLaws
 pub mod NameRanges
 pub mod OrderLaws
+pub mod PartLaws
 pub mod PutsLaws
 pub mod StatementNames
 pub mod ViewLaws

@@ -1,5 +1,5 @@
 -- What an item makes of blocks in the making is what it stands for.
-use Rattle.std.proofs.Common.{◌≡◌, refl, sym, ap, subst, ◌∙◌, ℕ, Bool, true, false, List, [], ◌∷◌, ◌++◌, Option, Some}
+use Rattle.std.proofs.Common.{◌≡◌, refl, sym, ap, subst, ◌∙◌, ℕ, Bool, true, false, List, [], ◌∷◌, ◌++◌, Option, Some, cond, ℤ}
 use Rattle.std.proofs.Common.{None}
 use Rattle.std.proofs.Common.{append_assoc}
 use Rattle.std.proofs.lemmas.List.{append-nil}
@@ -7,7 +7,7 @@ use Rattle.stack_ops.specs.declared.operation.Op.{Op}
 use Rattle.c_lower.specs.Items.{Name, Close, Item}
 use Rattle.c_lower.specs.Lowered.{Named, Opened, add_line, opened, shut}
 use Rattle.flow_graph.specs.Ascending.{Ascends}
-use Rattle.c_lower.specs.Building.{Making, with_lines, made, Puts, after}
+use Rattle.c_lower.specs.Building.{Making, no_blocks, with_lines, goes_on, made, Puts, appended, after}
 use Rattle.c_lower.proofs.AddedLines.{lines_shift, lines_alone, ascends-add}
 
 -- the lines of the rest of an open block ascend
@@ -92,3 +92,36 @@ module _ (gives : Bool) (done : List Named) (name : Option Name) (ops : List Op)
 pub puts_item : (i : Item) (old new : Making) → new ≡ after i old → Puts old new (λ rest. i ∷ rest)
 puts_item i old new e gives rest =
     ap (λ (m : Making). made gives m rest) e ∙ puts_one gives old.done old.name old.ops old.lines rest old.is_open i
+
+-- Behind a block that has ended stand blocks that were made apart.
+module _ (gives : Bool) (done : List Named) (name : Option Name) (ops : List Op) (lines : List ℕ) (rest : List Item)
+    (arms : Making) (cases : List (ℤ × Name)) (default : Name) (row : List Item → List Item) (apart : Puts no_blocks arms row)
+  where
+    abbrev select_close : Close
+    select_close = Close.Select cases default
+
+    abbrev selecting : Bool → Making
+    selecting is_open = after (Item.End select_close None)
+        (record { done = done; is_open = is_open; name = name; ops = ops; lines = lines })
+
+    abbrev of_arms : List Named
+    of_arms = cond arms.is_open (goes_on arms (opened gives rest)) (shut gives rest)
+
+    puts_arms : (is_open : Bool)
+        → made gives (appended (selecting is_open) arms) rest ≡ made gives (selecting is_open) (row rest)
+    unfolding made
+    puts_arms true =
+        let front = done ++ block name select_close [] ops lines in
+        append_assoc front arms.done of_arms ∙ ap (λ (bs : List Named). front ++ bs) (apart gives rest)
+    puts_arms false =
+        let front = done ++ block None select_close [] [] [] in
+        append_assoc front arms.done of_arms ∙ ap (λ (bs : List Named). front ++ bs) (apart gives rest)
+
+-- The ending that selects, and behind it blocks that were made apart.
+pub puts_select : (old new arms : Making) (cases : List (ℤ × Name)) (default : Name) (row : List Item → List Item)
+    → new ≡ appended (after (Item.End (Close.Select cases default) None) old) arms → Puts no_blocks arms row
+    → Puts old new (λ rest. Item.End (Close.Select cases default) None ∷ row rest)
+puts_select old new arms cases default row e apart gives rest =
+    ap (λ (m : Making). made gives m rest) e
+    ∙ puts_arms gives old.done old.name old.ops old.lines rest arms cases default row apart old.is_open
+    ∙ puts_one gives old.done old.name old.ops old.lines (row rest) old.is_open (Item.End (Close.Select cases default) None)

@@ -1,5 +1,5 @@
 -- What the views of typed expressions are, form by form.
-use Rattle.std.proofs.Common.{◌≡◌, ◌∙◌, refl, sym, ap, ℕ, zero, suc, ◌<◌, ◌≤◌, ℤ, List, [], ◌∷◌, map, length, get_or, arith}
+use Rattle.std.proofs.Common.{◌≡◌, ◌∙◌, refl, sym, ap, ℕ, ℤ, List, [], ◌∷◌, map}
 use Rattle.int_ops.specs.declared.types.IntType.{IntType}
 use Rattle.c_tree.specs.declared.typed_expr.CellAt.{CellAt}
 use Rattle.c_tree.specs.declared.typed_expr.Callee.{Callee}
@@ -9,7 +9,6 @@ use Rattle.c_tree.specs.declared.typed_expr.TypedKind.TheOpen.{TypedKind-F}
 use Rattle.c_tree.specs.declared.typed_expr.TypedKind.TheFolds.{fold-TypedExpr, fold-roll-TypedKind, fold_out-TypedExpr}
 use Rattle.c_tree.specs.declared.typed_expr.TypedExpr.{TypedExpr as ExprHeld}
 use Rattle.c_tree.specs.TypedExpr.{TypedExpr, TypedKind}
-use Rattle.c_lower.specs.Items.{nodes, all_nodes}
 use Rattle.c_tree.specs.TypedView.{typed_kind_step, typed_expr_step, typed_kind_view, typed_expr_view, typed_exprs_of}
 
 -- an expression whose form is known
@@ -47,14 +46,3 @@ call_view f es parts same =
     ap typed_kind_view (sym (held.rolls-Call f es)) ∙ fold-roll-TypedKind TypedKind TypedExpr typed_kind_step typed_expr_step (TypedKind-F.Call f es)
     ∙ ap (λ (xs : List TypedExpr). TypedKind.Call f (typed_exprs_of xs)) (are_folds es)
     ∙ ap (λ (xs : List ExprHeld). TypedKind.Call f (typed_exprs_of (map typed_expr_view xs))) (sym same)
-
--- ---- parts of lists
-
--- an expression among others has no more nodes than they
-pub part_below : (es : List ExprHeld) (i : ℕ) (e : ExprHeld) → i < length es → e ≡ get_or es i e
-    → nodes (typed_expr_view e) ≤ all_nodes (typed_exprs_of (map typed_expr_view es))
-part_below [] i e less is = absurd (omega (arith, less))
-part_below (x ∷ es) zero e less is =
-    let same = ap (λ (y : ExprHeld). nodes (typed_expr_view y)) is in omega (arith, same)
-part_below (x ∷ es) (suc i) e less is =
-    let more = part_below es i e (omega (arith, less)) is in omega (arith, more)

@@ -73,6 +73,16 @@ ends_shut c line m = close_with c (with_line_of line (open_with None m))
 abbrev pub jumped : Name → Making → Making
 jumped l m = cond m.is_open (close_with (Close.Jump l) m) m
 
+-- blocks behind others, of which none is open
+abbrev pub appended : Making → Making → Making
+appended m more = record {
+  done = m.done ++ more.done;
+  is_open = more.is_open;
+  name = more.name;
+  ops = more.ops;
+  lines = more.lines;
+}
+
 -- what an item makes of them
 abbrev pub after : Item → Making → Making
 after (Item.Begin l line) m = with_line_of line (open_with (Some l) (jumped l m))

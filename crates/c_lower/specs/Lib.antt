@@ -1,6 +1,9 @@
 pub mod Building
 pub mod CloseView
 pub mod Conditions
+pub mod ExitView
 pub mod Items
 pub mod Laws
 pub mod Lowered
+pub mod PartViews
+pub mod Tables

@@ -5,9 +5,11 @@ ghost use Rattle.std.specs.Prelude.{◌≡◌, Bool, List, [], ◌∷◌, ◌++�
 ghost use Rattle.c_lower.specs.Items.{Item};
 ghost use Rattle.c_lower.specs.Items as items;
 ghost use Rattle.c_lower.specs.CloseView.{close_view};
-ghost use Rattle.c_lower.specs.Building.{Puts, no_blocks, after, open_with, close_with, ready, with_op_of, with_line_of, ends_shut, jumped};
+ghost use Rattle.c_lower.specs.Building.{Puts, no_blocks, after, open_with, close_with, ready, with_op_of, with_line_of, ends_shut, jumped, appended};
+ghost use Rattle.c_lower.specs.Tables.{default_or};
 
 use crate::named::{Close, Label, NamedBlock};
+use crate::tables::Table;
 use flow_graph::lines::Lines;
 use stack_ops::Op;
 use std::alloc::{AllocError, Global};
@@ -52,6 +54,13 @@ impl Blocks {
             ops: Vec::new(alloc),
             lines: Lines::new(alloc),
         }
+    }
+
+    /// A table without labels.
+    pub fn no_table(&self) -> Table
+        ensures { result ≡ record { cases = []; default = None } }
+    {
+        Table::new(self.alloc)
     }
 
     /// Blocks of their own, beside these; none is open.
@@ -151,6 +160,33 @@ impl Blocks {
         self.end_shut(close, line)
     }
 
+    fn append_exactly(&mut self, more: Blocks) -> Result<(), AllocError>
+        ensures { OnOk result (self.new ≡ appended self.old more) }
+    {
+        let Blocks {
+            mut done,
+            is_open,
+            name,
+            ops,
+            lines,
+            ..
+        } = more;
+        self.done.append(&mut done)?;
+        self.is_open = is_open;
+        self.name = name;
+        self.ops = ops;
+        self.lines = lines;
+        Ok(())
+    }
+
+    fn select_exactly(&mut self, table: Table, end: Label, arms: Blocks) -> Result<(), AllocError>
+        ensures { OnOk result (self.new ≡ appended (after (Item.End (items.Close.Select table.cases
+            (default_or table.default end)) None) self.old) arms) }
+    {
+        self.end_exactly(table.into_close(end), None)?;
+        self.append_exactly(arms)
+    }
+
     /// A block begins. One that is still open jumps to it.
     #[tactic(auto, using(crate::proofs::MadeLaws::puts_item))]
     pub fn begin(&mut self, label: Label, line: Option<u32>) -> Result<(), AllocError>
@@ -174,5 +210,16 @@ impl Blocks {
             (λ rest. Item.End (close_view close) line ∷ rest)) }
     {
         self.end_exactly(close, line)
+    }
+
+    /// The ending that selects by a table, and behind it the blocks of the labels and items, which
+    /// were made apart.
+    #[tactic(auto, using(crate::proofs::MadeLaws::puts_select))]
+    pub fn select(&mut self, table: Table, end: Label, arms: Blocks) -> Result<(), AllocError>
+        ensures { OnOk result ((row : List Item → List Item) → Puts no_blocks arms row
+            → Puts self.old self.new (λ rest. Item.End (items.Close.Select table.cases
+            (default_or table.default end)) None ∷ row rest)) }
+    {
+        self.select_exactly(table, end, arms)
     }
 }

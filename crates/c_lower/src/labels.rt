@@ -199,3 +199,33 @@ pub fn if_either(node: u32, to: Targets) -> Targets
         other: right_side(node),
     }
 }
+
+/// Where the condition of an `if` without `else`, or of a loop, goes.
+pub fn body_or_end(node: u32) -> Targets
+    ensures { result ≡ record { one = items.body_of node; other = items.end_of node } }
+{
+    Targets {
+        one: body(node),
+        other: end(node),
+    }
+}
+
+/// Where the condition of an `if` with `else` goes.
+pub fn body_or_else(node: u32) -> Targets
+    ensures { result ≡ record { one = items.body_of node; other = items.else_of node } }
+{
+    Targets {
+        one: body(node),
+        other: otherwise(node),
+    }
+}
+
+/// Where the test of a `do` goes.
+pub fn again_or_end(node: u32) -> Targets
+    ensures { result ≡ record { one = items.again_of node; other = items.end_of node } }
+{
+    Targets {
+        one: again(node),
+        other: end(node),
+    }
+}

@@ -6,11 +6,16 @@ mod assignments;
 mod blocks;
 mod conditions;
 mod declarations;
+mod exits;
 mod labels;
 mod laws;
+mod loops;
 pub mod named;
 mod operations;
 mod pieces;
+mod statements;
+mod switches;
+mod tables;
 mod values;
 
 pub use laws::found_by_number;

@@ -4,7 +4,7 @@ ghost use Rattle.std.specs.Prelude.{◌≡◌, ◌∷◌, Some, None, pos, OnOk}
 ghost use Rattle.int_ops.specs.declared.types.IntType.TheVariants as type;
 ghost use Rattle.c_tree.specs.TypedView.{typed_expr_view};
 ghost use Rattle.stack_ops.specs.declared.operation.Op.TheVariants as op;
-ghost use Rattle.c_lower.specs.Items.{Item, true_of, false_of, third_of, join_of, plainly};
+ghost use Rattle.c_lower.specs.Items.{Item, true_of, false_of, third_of, join_of, end_of, else_of, plainly};
 ghost use Rattle.c_lower.specs.Items as items;
 ghost use Rattle.c_lower.specs.Building.{Puts};
 
@@ -113,6 +113,16 @@ pub fn third_choice(out: &mut Blocks, site: Site) -> Result<(), AllocError>
 {
     out.end(Close::Jump(labels::join(site.node)), None)?;
     out.begin(labels::third(site.node), Some(site.line))
+}
+
+/// The first part of an `if` ends, and the second begins.
+pub fn else_part(out: &mut Blocks, node: u32) -> Result<(), AllocError>
+    ensures { OnOk result (Puts out.old out.new
+        (λ rest. Item.End (items.Close.Jump (end_of node)) None ∷
+        Item.Begin (else_of node) None ∷ rest)) }
+{
+    out.end(Close::Jump(labels::end(node)), None)?;
+    out.begin(labels::otherwise(node), None)
 }
 
 /// The check of an index against the length of its array.

@@ -6,7 +6,8 @@ use Rattle.c_tree.specs.TypedExpr.{TypedExpr}
 use Rattle.c_tree.specs.TypedView.{typed_expr_view, typed_exprs_of}
 use Rattle.c_lower.specs.Items.{Item, ways, index_of, all_values, called}
 use Rattle.c_lower.specs.Building.{Puts}
-use Rattle.c_lower.proofs.ViewLaws.{form_is, index_view, call_view, number_view, part_below}
+use Rattle.c_lower.proofs.ViewLaws.{form_is, index_view, call_view, number_view}
+use Rattle.c_lower.proofs.PartLaws.{part_below}
 use Rattle.c_lower.proofs.PutsLaws.{then_puts}
 use Rattle.c_lower.proofs.+value.Goals as goal
 
