@@ -1,5 +1,5 @@
 -- Elements that become 0.
-use Rattle.std.proofs.Common.{◌≡◌, refl, ap, ℕ, suc, ◌-◌, ◌<◌, ◌≤◌, List, ◌∷◌, Option, None, pos, arith, sym, subst}
+use Rattle.std.proofs.Common.{◌≡◌, ap, ℕ, suc, ◌-◌, ◌<◌, ◌≤◌, List, ◌∷◌, Option, None, pos, arith}
 use Rattle.stack_ops.specs.declared.operation.Op.TheVariants as op
 use Rattle.c_lower.specs.Items.{Item, zeros, plainly}
 

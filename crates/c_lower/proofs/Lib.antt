@@ -1,11 +1,13 @@
 pub mod AddedLines
 pub mod ConditionLaws
 pub mod ElementLaws
+pub mod EndLaws
 pub mod MadeLaws
 mod ExpressionRuns
 mod GraphRows
 pub mod NameLaws
 pub mod NameRanges
+pub mod NumberLaws
 pub mod OrderLaws
 pub mod PartLaws
 pub mod PutsLaws

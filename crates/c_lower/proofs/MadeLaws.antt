@@ -1,5 +1,5 @@
 -- What an item makes of blocks in the making is what it stands for.
-use Rattle.std.proofs.Common.{◌≡◌, refl, sym, ap, subst, ◌∙◌, ℕ, Bool, true, false, List, [], ◌∷◌, ◌++◌, Option, Some, cond, ℤ}
+use Rattle.std.proofs.Common.{◌≡◌, refl, sym, ap, ◌∙◌, ℕ, Bool, true, false, List, [], ◌∷◌, ◌++◌, Option, Some, cond, ℤ}
 use Rattle.std.proofs.Common.{None}
 use Rattle.std.proofs.Common.{append_assoc}
 use Rattle.std.proofs.lemmas.List.{append-nil}
@@ -24,7 +24,7 @@ abbrev block : Option Name → Close → List Named → List Op → List ℕ →
 block name close later ops lines = record { name = name; ops = ops; close = close; lines = lines } ∷ later
 
 -- the line that a block begins with is one of its lines
-began : (line : Option ℕ) (o : Opened) → Ascends o.lines → with_lines (add_line line []) o.lines ≡ add_line line o.lines
+pub began : (line : Option ℕ) (o : Opened) → Ascends o.lines → with_lines (add_line line []) o.lines ≡ add_line line o.lines
 began line o h = lines_shift line [] o.lines ∙ lines_alone (add_line line o.lines) (ascends-add line o.lines h)
 
 -- a block that ends with a line

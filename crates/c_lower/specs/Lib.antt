@@ -5,5 +5,7 @@ pub mod ExitView
 pub mod Items
 pub mod Laws
 pub mod Lowered
+pub mod Numbers
 pub mod PartViews
+pub mod Refusals
 pub mod Tables

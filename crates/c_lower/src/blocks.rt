@@ -1,11 +1,14 @@
 //! Blocks in the making: items are put behind one another, and each names a block, an operation or
 //! an ending.
 
-ghost use Rattle.std.specs.Prelude.{◌≡◌, Bool, List, [], ◌∷◌, ◌++◌, true, false, cond, Option, Some, None, OnOk};
+ghost use Rattle.std.specs.Prelude.{◌≡◌, Bool, List, [], ◌∷◌, ◌++◌, true, false, cond, Option, Some, None, OnOk, IfOk, pos};
+ghost use Rattle.stack_ops.specs.declared.operation.Op.TheVariants as op;
+ghost use Rattle.c_lower.specs.Lowered as lowered;
+ghost use Rattle.c_lower.specs.Lowered.{opened};
 ghost use Rattle.c_lower.specs.Items.{Item};
 ghost use Rattle.c_lower.specs.Items as items;
 ghost use Rattle.c_lower.specs.CloseView.{close_view};
-ghost use Rattle.c_lower.specs.Building.{Puts, no_blocks, after, open_with, close_with, ready, with_op_of, with_line_of, ends_shut, jumped, appended};
+ghost use Rattle.c_lower.specs.Building.{Puts, made, no_blocks, after, open_with, close_with, ready, with_op_of, with_line_of, ends_shut, jumped, appended};
 ghost use Rattle.c_lower.specs.Tables.{default_or};
 
 use crate::named::{Close, Label, NamedBlock};
@@ -54,6 +57,24 @@ impl Blocks {
             ops: Vec::new(alloc),
             lines: Lines::new(alloc),
         }
+    }
+
+    fn begun_exactly(alloc: Global, line: u32) -> Result<Blocks, AllocError>
+        ensures { IfOk result (λ b. b ≡ with_line_of (Some line) (open_with None no_blocks)) }
+    {
+        let mut blocks = Blocks::new(alloc);
+        blocks.open(None);
+        blocks.note(Some(line))?;
+        Ok(blocks)
+    }
+
+    /// The first block of a function, which has the line of its name.
+    #[tactic(auto, using(crate::proofs::EndLaws::made_first))]
+    pub fn begun(alloc: Global, line: u32) -> Result<Blocks, AllocError>
+        ensures { IfOk result (λ b. (gives : Bool) (is : List Item) → made gives b is
+            ≡ lowered.begun None (Some line) (opened gives is)) }
+    {
+        Blocks::begun_exactly(alloc, line)
     }
 
     /// A table without labels.
@@ -221,5 +242,36 @@ impl Blocks {
             (default_or table.default end)) None ∷ row rest)) }
     {
         self.select_exactly(table, end, arms)
+    }
+
+    fn give_zero(&mut self, gives: bool) -> Result<(), AllocError>
+        ensures { OnOk result (self.new ≡ cond gives
+            (after (Item.Do (op.Push (pos 0)) None) self.old) self.old) }
+    {
+        if gives {
+            self.put_exactly(Op::Push(0), None)?;
+        }
+        Ok(())
+    }
+
+    fn end_exactly_open(&mut self, gives: bool) -> Result<(), AllocError>
+        ensures { OnOk result (self.new ≡ close_with items.Close.Leave (cond gives
+            (after (Item.Do (op.Push (pos 0)) None) self.old) self.old)) }
+    {
+        self.give_zero(gives)?;
+        self.close(Close::Leave)
+    }
+
+    /// All blocks. One that is still open ends the function; it gives 0 where the function gives a
+    /// number.
+    #[tactic(auto, using(crate::proofs::EndLaws::made_open, crate::proofs::EndLaws::made_shut))]
+    pub fn finish(self, gives: bool) -> Result<Vec<NamedBlock>, AllocError>
+        ensures { IfOk result (λ v. v.items ≡ made gives self []) }
+    {
+        let mut blocks = self;
+        if blocks.is_open {
+            blocks.end_exactly_open(gives)?;
+        }
+        Ok(blocks.done)
     }
 }

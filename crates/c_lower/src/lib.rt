@@ -10,7 +10,9 @@ mod exits;
 mod labels;
 mod laws;
 mod loops;
+mod lowering;
 pub mod named;
+mod numbers;
 mod operations;
 mod pieces;
 mod statements;
@@ -19,3 +21,4 @@ mod tables;
 mod values;
 
 pub use laws::found_by_number;
+pub use lowering::{LowerFault, check_globals, lower, lower_function};

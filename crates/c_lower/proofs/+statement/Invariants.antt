@@ -1,7 +1,6 @@
 use Rattle.std.proofs.Common.{◌≡◌, ◌+◌, ◌*◌, ◌++◌, Bool, List, None, map, option_map, drop}
 use Rattle.c_tree.specs.TypedView.{typed_stmt_view, typed_stmts_of, typed_items_of, other_typed_of}
-use Rattle.c_tree.specs.TypedStmt.{TypedForHead}
-use Rattle.c_lower.specs.Items.{Item, Name, code, codes_of, code_items, cases_of, default_of}
+use Rattle.c_lower.specs.Items.{Item, Name, codes_of, code_items, cases_of, default_of}
 use Rattle.c_lower.specs.Items.{stmt_nodes, stmts_nodes, item_nodes, items_nodes, other_nodes}
 use Rattle.c_lower.specs.Building.{made}
 use Rattle.c_lower.specs.ExitView.{exit_view}
