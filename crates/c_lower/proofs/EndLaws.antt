@@ -27,7 +27,8 @@ module _ (done : List Named) (name : Option Name) (ops : List Op) (lines : List 
     abbrev making : Bool → Making
     making is_open = record { done = done; is_open = is_open; name = name; ops = ops; lines = lines }
 
-    ended_open : (gives is_open : Bool) → is_open ≡ true → (ended gives (making is_open)).done ≡ made gives (making is_open) []
+    ended_open : (gives is_open : Bool) → is_open ≡ true
+        → (ended gives (making is_open)).done ≡ made gives (making is_open) []
     unfolding made
     ended_open true true h = refl
     ended_open false true h =
@@ -42,7 +43,8 @@ module _ (done : List Named) (name : Option Name) (ops : List Op) (lines : List 
 
 -- nothing comes behind a block that has ended the function
 pub made_open : (gives : Bool) (m new : Making) → m.is_open ≡ true
-    → new ≡ close_with Close.Leave (cond gives (after (Item.Do (op.Push (pos 0)) None) m) m) → new.done ≡ made gives m []
+    → new ≡ close_with Close.Leave (cond gives (after (Item.Do (op.Push (pos 0)) None) m) m)
+    → new.done ≡ made gives m []
 made_open gives m new h e =
     ap (λ (x : Making). x.done) e ∙ ended_open m.done m.name m.ops m.lines gives m.is_open h
 

@@ -1,6 +1,5 @@
 pub mod AddedLines
 pub mod ConditionLaws
-pub mod ElementLaws
 pub mod EndLaws
 pub mod MadeLaws
 mod ExpressionRuns
@@ -17,3 +16,4 @@ mod StatementRuns
 mod TrapRuns
 mod TypeRuns
 mod WalkRows
+pub mod ZeroLaws

@@ -24,7 +24,8 @@ abbrev block : Option Name → Close → List Named → List Op → List ℕ →
 block name close later ops lines = record { name = name; ops = ops; close = close; lines = lines } ∷ later
 
 -- the line that a block begins with is one of its lines
-pub began : (line : Option ℕ) (o : Opened) → Ascends o.lines → with_lines (add_line line []) o.lines ≡ add_line line o.lines
+pub began : (line : Option ℕ) (o : Opened) → Ascends o.lines
+    → with_lines (add_line line []) o.lines ≡ add_line line o.lines
 began line o h = lines_shift line [] o.lines ∙ lines_alone (add_line line o.lines) (ascends-add line o.lines h)
 
 -- a block that ends with a line
@@ -95,7 +96,8 @@ puts_item i old new e gives rest =
 
 -- Behind a block that has ended stand blocks that were made apart.
 module _ (gives : Bool) (done : List Named) (name : Option Name) (ops : List Op) (lines : List ℕ) (rest : List Item)
-    (arms : Making) (cases : List (ℤ × Name)) (default : Name) (row : List Item → List Item) (apart : Puts no_blocks arms row)
+    (arms : Making) (cases : List (ℤ × Name)) (default : Name) (row : List Item → List Item)
+    (apart : Puts no_blocks arms row)
   where
     abbrev select_close : Close
     select_close = Close.Select cases default
@@ -124,4 +126,5 @@ pub puts_select : (old new arms : Making) (cases : List (ℤ × Name)) (default 
 puts_select old new arms cases default row e apart gives rest =
     ap (λ (m : Making). made gives m rest) e
     ∙ puts_arms gives old.done old.name old.ops old.lines rest arms cases default row apart old.is_open
-    ∙ puts_one gives old.done old.name old.ops old.lines (row rest) old.is_open (Item.End (Close.Select cases default) None)
+    ∙ puts_one gives old.done old.name old.ops old.lines (row rest) old.is_open
+    (Item.End (Close.Select cases default) None)

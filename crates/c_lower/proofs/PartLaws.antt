@@ -20,7 +20,8 @@ below weight total sums [] i x less is = absurd (omega (arith, less))
 below weight total sums (y ∷ ys) zero x less is =
     let same = ap weight is in let sum = sums y ys in omega (arith, same, sum)
 below weight total sums (y ∷ ys) (suc i) x less is =
-    let more = below weight total sums ys i x (omega (arith, less)) is in let sum = sums y ys in omega (arith, more, sum)
+    let more = below weight total sums ys i x (omega (arith, less)) is in
+    let sum = sums y ys in omega (arith, more, sum)
 
 pub part_below : (es : List ExprHeld) (i : ℕ) (e : ExprHeld) → i < length es → e ≡ get_or es i e
     → nodes (typed_expr_view e) ≤ all_nodes (typed_exprs_of (map typed_expr_view es))

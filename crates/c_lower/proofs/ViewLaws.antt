@@ -28,21 +28,26 @@ is_fold = fold_out-TypedExpr TypedKind TypedExpr typed_kind_step typed_expr_step
 are_folds : (es : List ExprHeld) → map expr_fold es ≡ map typed_expr_view es
 are_folds [] = refl
 are_folds (e ∷ es) =
-    ap (λ (x : TypedExpr). x ∷ map expr_fold es) (is_fold e) ∙ ap (λ (xs : List TypedExpr). typed_expr_view e ∷ xs) (are_folds es)
+    ap (λ (x : TypedExpr). x ∷ map expr_fold es) (is_fold e)
+    ∙ ap (λ (xs : List TypedExpr). typed_expr_view e ∷ xs) (are_folds es)
 
 pub number_view : (n : ℤ) (t : IntType) → typed_kind_view (held.Number n t) ≡ TypedKind.Number n t
-number_view n t = ap typed_kind_view (sym (held.rolls-Number n t)) ∙ fold-roll-TypedKind TypedKind TypedExpr typed_kind_step typed_expr_step (TypedKind-F.Number n t)
+number_view n t =
+    ap typed_kind_view (sym (held.rolls-Number n t))
+    ∙ fold-roll-TypedKind TypedKind TypedExpr typed_kind_step typed_expr_step (TypedKind-F.Number n t)
 
 pub index_view : (c : CellAt) (n p l : ℕ) (e part : ExprHeld) → part ≡ e
     → typed_kind_view (held.Index c n p l e) ≡ TypedKind.Index c n p l (typed_expr_view part)
 index_view c n p l e part same =
-    ap typed_kind_view (sym (held.rolls-Index c n p l e)) ∙ fold-roll-TypedKind TypedKind TypedExpr typed_kind_step typed_expr_step (TypedKind-F.Index c n p l e)
+    ap typed_kind_view (sym (held.rolls-Index c n p l e))
+    ∙ fold-roll-TypedKind TypedKind TypedExpr typed_kind_step typed_expr_step (TypedKind-F.Index c n p l e)
     ∙ ap (TypedKind.Index c n p l) (is_fold e)
     ∙ ap (λ (x : ExprHeld). TypedKind.Index c n p l (typed_expr_view x)) (sym same)
 
 pub call_view : (f : Callee) (es parts : List ExprHeld) → parts ≡ es
     → typed_kind_view (held.Call f es) ≡ TypedKind.Call f (typed_exprs_of (map typed_expr_view parts))
 call_view f es parts same =
-    ap typed_kind_view (sym (held.rolls-Call f es)) ∙ fold-roll-TypedKind TypedKind TypedExpr typed_kind_step typed_expr_step (TypedKind-F.Call f es)
+    ap typed_kind_view (sym (held.rolls-Call f es))
+    ∙ fold-roll-TypedKind TypedKind TypedExpr typed_kind_step typed_expr_step (TypedKind-F.Call f es)
     ∙ ap (λ (xs : List TypedExpr). TypedKind.Call f (typed_exprs_of xs)) (are_folds es)
     ∙ ap (λ (xs : List ExprHeld). TypedKind.Call f (typed_exprs_of (map typed_expr_view xs))) (sym same)

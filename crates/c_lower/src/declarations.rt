@@ -52,7 +52,7 @@ impl Array {
     }
 
     /// The elements from an index on become 0.
-    #[tactic(auto, using(crate::proofs::ElementLaws::zeros_step, crate::proofs::ElementLaws::zeros_end))]
+    #[tactic(auto, using(crate::proofs::ZeroLaws::one_more, crate::proofs::ZeroLaws::no_more))]
     fn clear(self, out: &mut Blocks, from: u64, line: Option<u32>) -> Result<(), AllocError>
         ensures { OnOk result (Puts out.old out.new
             (λ rest. zeros (self.count - from) self.first self.count from line rest)) }

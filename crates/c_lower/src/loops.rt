@@ -159,8 +159,8 @@ fn first_if(
     ensures code { OnOk result (Puts out.old out.new
         (λ rest. code_other (other_typed_of (option_map typed_stmt_view first.now)) next.old
         (exit_view exits.now.breaks) (exit_view exits.now.continues) rest)) }
-    ensures next { OnOk result
-        (next.new ≡ next.old + other_nodes (other_typed_of (option_map typed_stmt_view first.now))) }
+    ensures next { OnOk result (next.new ≡ next.old
+        + other_nodes (other_typed_of (option_map typed_stmt_view first.now))) }
 {
     match first {
         Some(first) => statement(out, next, first, exits),

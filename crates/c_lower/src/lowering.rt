@@ -1,11 +1,12 @@
 //! Graphs of typed sources.
 
-ghost use Rattle.std.specs.Prelude.{◌≡◌, ◌≤◌, ◌++◌, length, map, replicate, None, OnOk, IfOk, IfErr};
+ghost use Rattle.std.specs.Prelude.{◌≡◌, ◌≤◌, ◌<◌, ◌^◌, ◌++◌, length, map, replicate, None, OnOk, IfOk, IfErr};
 ghost use Rattle.c_tree.specs.Runs.{all_of};
 ghost use Rattle.c_tree.specs.TypedView.{typed_view, function_view};
 ghost use Rattle.c_lower.specs.Items.{gives_number};
 ghost use Rattle.c_lower.specs.Lowered.{graph_of, named_blocks};
-ghost use Rattle.c_lower.specs.Refusals.{Lowers, LowersFunction, Refuses, globals_fault, frames_fault, cell_limit};
+ghost use Rattle.c_lower.specs.Refusals.{Lowers, LowersFunction, Refuses, cell_limit};
+ghost use Rattle.c_lower.specs.Refusals.{globals_fault, frames_fault};
 
 use crate::blocks::Blocks;
 use crate::exits::{Exit, Exits};
@@ -91,6 +92,7 @@ pub fn lower_function(
 
 fn lower_all(alloc: Global, fs: &[TypedFunction]) -> Result<Vec<Graph>, Refusal<LowerFault>>
     ensures graphs { IfOk result (λ v. v.items ≡ map graph_of (map function_view fs.now)) }
+    ensures few { IfOk result (λ v. length v.items < 2 ^ 32) }
     ensures fits { OnOk result (frames_fault 0 (map function_view fs.now) ≡ None) }
     ensures refused { IfErr result (Refuses (frames_fault 0 (map function_view fs.now))) }
 {
@@ -143,7 +145,8 @@ fn repeat(numbers: &mut Vec<i128>, run: NumberRun) -> Result<(), AllocError>
 /// The graphs of a source, which aren't pruned. The globals are tested first, and then the frames
 /// of the functions, in order.
 pub fn lower(alloc: Global, typed: &Typed) -> Result<GraphUnit, Refusal<LowerFault>>
-    ensures { Lowers (typed_view typed.now) result }
+    ensures exact { Lowers (typed_view typed.now) result }
+    ensures few { IfOk result (λ unit. length unit.graphs < 2 ^ 32) }
 {
     check_globals(&typed.globals)?;
     let graphs = lower_all(alloc, typed.functions.as_slice())?;

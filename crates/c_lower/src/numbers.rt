@@ -76,7 +76,6 @@ impl Rows {
     }
 
     /// The block of this name has the number, unless the name has one.
-    #[tactic(auto, using(crate::proofs::NumberLaws::number_added, crate::proofs::NumberLaws::number_reached))]
     pub fn add(&mut self, name: Label, number: u32) -> Result<(), AllocError>
         ensures { OnOk result ((l : Name) (other : ℕ) → number_at self.new l other
             ≡ number_at self.old l (cond (is_name l (Some name)) number other)) }

@@ -44,4 +44,5 @@ values::value-returns-in_ok-values-in-Call-clause-code t c =
 
 pub values::values-value-requires : goal.values::values-value-requires
 values::values-value-requires t c =
-    (omega (arith, part_below c.args.es.now c.loop-e.e-index c.e-item.result (omega arith) c.e-item.is, c.decreases), tt)
+    let less = part_below c.args.es.now c.loop-e.e-index c.e-item.result (omega arith) c.e-item.is in
+    (omega (arith, less, c.decreases), tt)
