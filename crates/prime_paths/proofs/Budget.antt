@@ -42,7 +42,7 @@ turn net a l x =
     (and_from _ _ x (and_from _ _ l (and_from _ _ x refl))) refl
 
 -- no prime path is one block that another block, or itself, leads to
-single_prime : (net : NetValue) (a b : ℕ) → IsPrime net (b ∷ []) → leads net a b ≡ true → is_inner net a ≡ true → ⊥
+pub single_prime : (net : NetValue) (a b : ℕ) → IsPrime net (b ∷ []) → leads net a b ≡ true → is_inner net a ≡ true → ⊥
 single_prime net a b h l x =
     let y : is_inner net b ≡ true = (and_parts (is_inner net b) true
     (and_parts (is_inner net b && true) (is_simple (b ∷ [])) h.simple).0).0 in

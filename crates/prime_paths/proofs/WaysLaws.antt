@@ -135,14 +135,14 @@ ends_up near far further b (x ∷ arcs) h =
             (further x y (all_above x arcs h y k) ((at_parts near far b x e).1 ∙ sym (at_parts near far b y a).1))
     go false e rec = rec
 
-any_among : {A : Type 0} (t : A → Bool) (xs : List A) → list_any t xs ≡ true → (y : A) × Among y xs × (t y ≡ true)
+pub any_among : {A : Type 0} (t : A → Bool) (xs : List A) → list_any t xs ≡ true → (y : A) × Among y xs × (t y ≡ true)
 any_among t [] e = absurd (let never : false ≡ true = e in cc)
 any_among t (x ∷ xs) e = elim (or_cases (t x) (list_any t xs) e) [
   | inl l ↦ (x, inl refl, l)
   | inr r ↦ (let h = any_among t xs r in (h.0, inr h.1, h.2))
 ]
 
-among_any : {A : Type 0} (t : A → Bool) (y : A) (xs : List A) → Among y xs → t y ≡ true → list_any t xs ≡ true
+pub among_any : {A : Type 0} (t : A → Bool) (y : A) (xs : List A) → Among y xs → t y ≡ true → list_any t xs ≡ true
 among_any t y [] m e = absurd m
 among_any t y (x ∷ xs) (inl s) e = or_left (t x) (list_any t xs) (ap t (sym s) ∙ e)
 among_any t y (x ∷ xs) (inr m) e = or_right (t x) (list_any t xs) (among_any t y xs m e)
@@ -190,7 +190,7 @@ from_of arc = arc.from
 abbrev pub to_of : FlowArc → ℕ
 to_of arc = arc.to
 
-way_onto : (a b : ℕ) (y : FlowArc) → is_real y.kind ≡ true → y.from ≡ a → y.to ≡ b → is_way a b y ≡ true
+pub way_onto : (a b : ℕ) (y : FlowArc) → is_real y.kind ≡ true → y.from ≡ a → y.to ≡ b → is_way a b y ≡ true
 way_onto a b y r e f = and_from (joins a b y) (is_real y.kind)
     (and_from (y.from == a) (y.to == b) (eq-eqb _ _ e) (eq-eqb _ _ f)) r
 
@@ -211,7 +211,7 @@ ends_inside net is = All-weaker (λ arc. is_outside net.blocks arc ≡ false)
     (λ arc. (arc.from < net.blocks) × (arc.to < net.blocks))
     (inside_parts net.blocks) net.arcs (HasShape-from_IsNet net is).inside
 
-all_among : {A : Type 0} (P : A → Type 0) (xs : List A) → All P xs → (y : A) → Among y xs → P y
+pub all_among : {A : Type 0} (P : A → Type 0) (xs : List A) → All P xs → (y : A) → Among y xs → P y
 all_among P [] h y m = absurd m
 all_among P (x ∷ xs) h y (inl e) = subst P (sym e) (h 0 x (omega arith))
 all_among P (x ∷ xs) h y (inr m) = all_among P xs (λ k d l. h (suc k) d (omega (arith, l))) y m

@@ -1,0 +1,6 @@
+pub mod BitLaws
+pub mod WalkBits
+pub mod WordLaws
+pub mod MaskLaws
+pub mod FitLaws
+mod Rows

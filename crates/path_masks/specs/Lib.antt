@@ -1,0 +1,3 @@
+pub mod UnderWay
+pub mod Masks
+pub mod Laws
