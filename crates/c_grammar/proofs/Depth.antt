@@ -1,38 +1,12 @@
 -- A front has as many levels as its value, and no more than its tokens allow.
-use Rattle.std.proofs.Common.{
-  ◌≡◌,
-  ℕ,
-  zero,
-  suc,
-  ◌+◌,
-  ◌-◌,
-  ◌<◌,
-  ◌≤◌,
-  max,
-  Bool,
-  true,
-  false,
-  List,
-  [],
-  ◌∷◌,
-  length,
-  Option,
-  Some,
-  None,
-  refl,
-  sym,
-  ap,
-  ◌∙◌,
-  subst,
-  arith,
-}
+use Rattle.std.proofs.Common.{◌≡◌, ℕ, zero, suc, ◌+◌, ◌-◌, ◌≤◌, max, Bool, true, false, List, [], ◌∷◌, length, Option, Some, None, refl, sym, ap, subst, arith}
 use Rattle.int_ops.specs.declared.operators.BinOp.{BinOp}
 use Rattle.c_tokens.specs.declared.token.Punct.{Punct}
 use Rattle.c_tokens.specs.declared.token.Punct.TheVariants as mark
 use Rattle.c_tokens.specs.declared.token.Token.{Token}
 use Rattle.c_tree.specs.declared.expr.Base.{Base}
-use Rattle.c_tree.specs.Expr.{Expr, Kind, Exprs}
-use Rattle.c_tree.specs.Stmt.{Stmt, OtherStmt, Stmts, SwitchItem, SwitchItems}
+use Rattle.c_tree.specs.Expr.{Expr}
+use Rattle.c_tree.specs.Stmt.{Stmt, SwitchItem}
 use Rattle.c_tree.specs.Tree.{Head}
 use Rattle.c_tree.specs.Levels.{
   levels,
@@ -65,7 +39,7 @@ use Rattle.c_grammar.specs.declared.begins.ItemForm.{ItemForm}
 use Rattle.c_grammar.specs.declared.begins.ItemForm.TheVariants as label
 use Rattle.c_grammar.specs.declared.begins.ParamsForm.{ParamsForm}
 use Rattle.c_grammar.specs.declared.begins.ParamsForm.TheVariants as params
-use Rattle.c_grammar.specs.Words.{behind_words, key_of, is_type_word, next_is, type_at, name_at}
+use Rattle.c_grammar.specs.Words.{next_is, type_at, name_at}
 use Rattle.c_grammar.specs.Operators.{
   operand_at,
   increment_at,

@@ -1,25 +1,5 @@
 -- What parts say of the form that they stand in.
-use Rattle.std.proofs.Common.{
-  ◌≡◌,
-  ℕ,
-  ◌+◌,
-  ◌<◌,
-  ◌≤◌,
-  max,
-  List,
-  [],
-  ◌∷◌,
-  Option,
-  Some,
-  Ok,
-  Err,
-  refl,
-  sym,
-  ap,
-  ◌∙◌,
-  subst,
-  arith,
-}
+use Rattle.std.proofs.Common.{◌≡◌, ℕ, ◌+◌, ◌<◌, ◌≤◌, max, List, ◌∷◌, Ok, Err, refl, sym, ap, ◌∙◌, subst, arith}
 use Rattle.std.specs.Prelude.{Result as Outcome}
 use Rattle.cov_base.specs.declared.refusal.Refusal.{Refusal}
 use Rattle.cov_base.specs.declared.refusal.Refusal.TheVariants as refusal
@@ -27,10 +7,9 @@ use Rattle.c_tokens.specs.declared.token.Token.{Token}
 use Rattle.c_grammar.specs.declared.fault.ParseFault.{ParseFault}
 use Rattle.c_grammar.specs.declared.fault.ParseFault.TheVariants as fault
 use Rattle.c_grammar.specs.Rules.{Rule, Result}
-use Rattle.c_grammar.specs.Words.{base_at}
-use Rattle.c_grammar.specs.Grammar.{Grammar, form_of}
+use Rattle.c_grammar.specs.Grammar.{Grammar}
 use Rattle.c_grammar.specs.Derivations.{By, Front}
-use Rattle.c_grammar.specs.Reads.{Refuses, Lacks, Fits, Reads}
+use Rattle.c_grammar.specs.Reads.{Refuses, Lacks, Reads}
 use Rattle.c_grammar.specs.declared.found.Found.{Found}
 use Rattle.c_grammar.proofs.Moves.{some_same}
 

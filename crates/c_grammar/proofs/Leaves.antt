@@ -1,30 +1,5 @@
 -- What single tokens say of the rules that they stand for.
-use Rattle.std.proofs.Common.{
-  ◌≡◌,
-  ℕ,
-  ◌+◌,
-  ◌<◌,
-  ◌≤◌,
-  max,
-  List,
-  [],
-  ◌∷◌,
-  Option,
-  Some,
-  None,
-  Bool,
-  true,
-  false,
-  Result,
-  Ok,
-  Err,
-  refl,
-  sym,
-  ap,
-  ◌∙◌,
-  subst,
-  arith,
-}
+use Rattle.std.proofs.Common.{◌≡◌, ℕ, List, [], ◌∷◌, Some, None, true, false, refl, sym, ap, ◌∙◌}
 use Rattle.cov_base.specs.declared.refusal.Refusal.{Refusal}
 use Rattle.cov_base.specs.declared.refusal.Refusal.TheVariants as refusal
 use Rattle.c_tokens.specs.declared.token.Token.{Token}
@@ -40,11 +15,9 @@ use Rattle.c_grammar.specs.declared.fault.ParseFault.TheVariants as fault
 use Rattle.c_tree.specs.declared.expr.Base.{Base}
 use Rattle.std.proofs.lemmas.Option.{none-some}
 use Rattle.c_grammar.specs.Words.{base_at, behind_words, is_mark, mark_of, next_is, is_name, name_at, key_of, key_at}
-use Rattle.c_grammar.proofs.Laws.{one}
 use Rattle.c_grammar.specs.Rules.{Rule}
 use Rattle.c_grammar.specs.Derivations.{By, Front}
 use Rattle.c_grammar.specs.Reads.{Lacks}
-use Rattle.c_grammar.specs.declared.found.Found.{Found}
 use Rattle.c_grammar.proofs.Moves.{moved1, some_same}
 
 pub any_lacking : {text : List ℕ} {ts : List Token} {place : ℕ} → ts ≡ [] → Lacks (Front text Rule.any ts)

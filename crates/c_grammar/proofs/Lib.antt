@@ -4,3 +4,6 @@ pub mod Leaves
 pub mod Words
 pub mod Depth
 pub mod Lists
+pub mod Formed
+pub mod Spends
+pub mod Steps

@@ -1,51 +1,19 @@
 -- Lists and operators that are read from the front: what was read, and what goes on behind it.
-use Rattle.std.proofs.Common.{
-  ◌≡◌,
-  ℕ,
-  ◌+◌,
-  ◌<◌,
-  ◌≤◌,
-  max,
-  Bool,
-  true,
-  false,
-  List,
-  [],
-  ◌∷◌,
-  ◌++◌,
-  length,
-  map,
-  nat_cmp,
-  refl,
-  sym,
-  ap,
-  ◌∙◌,
-  subst,
-  arith,
-}
+use Rattle.std.proofs.Common.{◌≡◌, ℕ, ◌≤◌, max, Bool, true, false, List, [], ◌∷◌, ◌++◌, map, nat_cmp, refl, sym, ap, ◌∙◌, subst, arith}
 use Rattle.std.specs.Ordering.{ord_max}
 use Rattle.std.proofs.lemmas.List.{append_assoc, append-nil, map-append}
 use Rattle.cov_base.specs.declared.refusal.Refusal.{Refusal}
-use Rattle.cov_base.specs.declared.refusal.Refusal.TheVariants as refusal
 use Rattle.c_tokens.specs.declared.token.Token.{Token}
 use Rattle.c_grammar.specs.declared.fault.ParseFault.{ParseFault}
 use Rattle.c_grammar.specs.Words.{behind}
 use Rattle.c_grammar.specs.Rules.{Listed, Member, Rule, Result}
-use Rattle.c_grammar.specs.Grammar.{Grammar, form_of, member, as_member, goes_on, has_commas, further, more_as}
+use Rattle.c_grammar.specs.Grammar.{Grammar, member, as_member, goes_on, has_commas, further, more_as}
+use Rattle.c_grammar.specs.declared.begins.Following.{Following}
+use Rattle.c_grammar.specs.Lists.{following_of, follows, member_at}
 use Rattle.c_grammar.specs.Derivations.{By, Front}
 use Rattle.c_grammar.specs.Reads.{Refuses, Fits, Leads}
 use Rattle.c_grammar.proofs.Moves.{moved1}
-use Rattle.c_grammar.proofs.Laws.{
-  one,
-  Parted,
-  parted,
-  behind as behind_part,
-  levelled,
-  valued,
-  chosen,
-  first_token,
-  refused_part,
-}
+use Rattle.c_grammar.proofs.Laws.{parted, behind as behind_part, levelled, chosen, first_token, refused_part}
 use Rattle.std.proofs.lemmas.Bool.{false≢true}
 
 -- What is a front in the one way is these members, of at most so many levels, and then what is one in the other way.
@@ -191,7 +159,7 @@ pub leads_fits : {A : Type 0} {P Q : A → ℕ → List Token → Type 0} {room 
 leads_fits {n = n} {x = x} {rest = rest} g f = record { front = g.forth x n rest f.front; fits = f.fits }
 
 -- the program's greater of two numbers
-greater : (a b : ℕ) → ord_max nat_cmp a b ≡ max a b
+pub greater : (a b : ℕ) → ord_max nat_cmp a b ≡ max a b
 greater a b = grind arith
 
 -- one more member was read
@@ -231,3 +199,30 @@ pub member_refused : (text : List ℕ) (l : Listed) {P : List (Member l) → ℕ
     {e : Refusal ParseFault} → Begun P (Front text (Rule.list l) ts) xs n → Refuses (Front text (member l) ts) small e
     → room ≤ small → Refuses P room e
 member_refused text l b h k = begun_refused b (refused_part (Rule.list l) (member l) h (omega (arith, k)))
+
+-- what tells that the list goes on
+pub follows_as : (l : Listed) {f : Following} (ts : List Token) → following_of l ≡ f → goes_on l ts ≡ follows f ts
+follows_as l ts e = own l ts ∙ ap (λ f. follows f ts) e
+  where
+    own : (l : Listed) (ts : List Token) → goes_on l ts ≡ follows (following_of l) ts
+    own Listed.arguments ts = refl
+    own Listed.values ts = refl
+    own (Listed.variables base) ts = refl
+    own Listed.parameters ts = refl
+    own Listed.items ts = refl
+    own Listed.switch_items ts = refl
+    own Listed.outers ts = refl
+
+-- where its next member stands
+pub member_as : (l : Listed) {f : Following} (ts : List Token) → following_of l ≡ f → member_at f ts ≡ past (has_commas l)
+    ts
+member_as l ts e = ap (λ f. member_at f ts) (sym e) ∙ own l ts
+  where
+    own : (l : Listed) (ts : List Token) → member_at (following_of l) ts ≡ past (has_commas l) ts
+    own Listed.arguments ts = refl
+    own Listed.values ts = refl
+    own (Listed.variables base) ts = refl
+    own Listed.parameters ts = refl
+    own Listed.items ts = refl
+    own Listed.switch_items ts = refl
+    own Listed.outers ts = refl

@@ -1,5 +1,5 @@
 -- What the grammar of declarations, statements and sources asks of the next tokens, and what it makes of tokens.
-use Rattle.std.specs.Prelude.{ℕ, Bool, true, false, cond, not, List, [], ◌∷◌, Option, Some, None}
+use Rattle.std.specs.Prelude.{ℕ, Bool, true, false, cond, List, [], ◌∷◌, Option, Some, None}
 use Rattle.c_tokens.specs.declared.token.Keyword.{Keyword}
 use Rattle.c_tokens.specs.declared.token.Keyword.TheVariants as key
 use Rattle.c_tokens.specs.declared.token.Punct.TheVariants as mark
@@ -8,7 +8,7 @@ use Rattle.c_tokens.specs.declared.token.TokenKind.{TokenKind}
 use Rattle.c_tokens.specs.declared.token.TokenKind.TheVariants as kind
 use Rattle.c_tree.specs.declared.expr.Base.{Base}
 use Rattle.c_tree.specs.Expr.{Expr}
-use Rattle.c_tree.specs.Stmt.{Size, Init, Var, Stmt, OtherStmt}
+use Rattle.c_tree.specs.Stmt.{Size, Init, Var, Stmt}
 use Rattle.c_tree.specs.Tree.{Param, Head}
 use Rattle.c_grammar.specs.declared.begins.StmtForm.{StmtForm}
 use Rattle.c_grammar.specs.declared.begins.StmtForm.TheVariants as form

@@ -10,7 +10,7 @@ use Rattle.c_tokens.specs.declared.token.TokenKind.{TokenKind}
 use Rattle.c_tokens.specs.declared.token.TokenKind.TheVariants as kind
 use Rattle.c_tree.specs.declared.expr.Base.{Base}
 use Rattle.c_tree.specs.Expr.{Expr, Kind}
-use Rattle.c_tree.specs.Stmt.{Size, Init, Var, Stmt, OtherStmt, ForHead, SwitchItem}
+use Rattle.c_tree.specs.Stmt.{Size, Init, Stmt, OtherStmt, ForHead, SwitchItem}
 use Rattle.c_tree.specs.Tree.{Param, Head, Outer}
 use Rattle.c_tree.specs.TreeView.{exprs_of, stmts_of, items_of}
 use Rattle.c_grammar.specs.declared.begins.Operand.{Operand}

@@ -5,3 +5,4 @@ pub mod Rules
 pub mod Grammar
 pub mod Derivations
 pub mod Reads
+pub mod Lists

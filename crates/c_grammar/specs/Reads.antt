@@ -2,10 +2,14 @@
 use Rattle.std.specs.Prelude.{◌≡◌, ℕ, ◌<◌, ◌≤◌, List, length, Result, Ok, Err}
 use Rattle.cov_base.specs.declared.refusal.Refusal.{Refusal}
 use Rattle.cov_base.specs.declared.refusal.Refusal.TheVariants as refusal
+use Rattle.c_tokens.specs.declared.token.Punct.{Punct}
 use Rattle.c_tokens.specs.declared.token.Token.{Token}
+use Rattle.c_tokens.specs.declared.token.TokenKind.TheVariants as kind
 use Rattle.c_grammar.specs.declared.fault.ParseFault.{ParseFault}
 use Rattle.c_grammar.specs.declared.fault.ParseFault.TheVariants as fault
 use Rattle.c_grammar.specs.declared.found.Found.{Found}
+use Rattle.c_grammar.specs.Rules.{Rule}
+use Rattle.c_grammar.specs.Derivations.{Front}
 
 -- The tokens are refused: they have no such front, all that they have has more levels than there is room for, or memory
 -- ran out (own).
@@ -38,6 +42,13 @@ pub data Lacks {A : Type 0} (P : A → ℕ → List Token → Type 0) : Refusal 
 abbrev pub Takes : {A : Type 0} → (A → ℕ → List Token → Type 0) → Result (Found A) (Refusal ParseFault) → Type 0
 Takes P (Ok found) = (found.levels ≡ 0) × P found.tree 0 found.rest.now
 Takes P (Err e) = Lacks P e
+
+-- what was found stands before this mark, or the mark is lacking (own)
+abbrev pub Closes : {H : Type 0} → List ℕ → Punct → Found H → Result (Found H) (Refusal ParseFault) → Type 0
+Closes text m inner (Ok found) =
+    (found.tree ≡ inner.tree) × (found.levels ≡ inner.levels) × (close : Token)
+    × Front text (Rule.token (kind.Mark m)) inner.rest.now close 0 found.rest.now
+Closes text m inner (Err e) = Lacks (Front text (Rule.token (kind.Mark m)) inner.rest.now) e
 
 -- What is a front in the one way is one in the other (own).
 pub record Leads {A : Type 0} (P Q : A → ℕ → List Token → Type 0) : Type 0 where

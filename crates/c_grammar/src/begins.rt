@@ -79,3 +79,16 @@ pub enum ItemForm {
     /// A declaration or a statement.
     Item,
 }
+
+/// What tells that a further member of a list follows.
+#[derive(Clone, Copy, Debug, PartialEq, Eq)]
+pub enum Following {
+    /// A comma.
+    Comma,
+    /// A comma that no `}` stands behind.
+    CommaAndMore,
+    /// Anything but `}`.
+    UpToBrace,
+    /// Anything.
+    UpToEnd,
+}

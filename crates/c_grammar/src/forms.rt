@@ -1,11 +1,12 @@
 //! What the next tokens begin in declarations, statements and sources.
 
-ghost use Rattle.std.specs.Prelude.{◌≡◌, map};
+ghost use Rattle.std.specs.Prelude.{◌≡◌, ◌≤◌, length, map};
 ghost use Rattle.c_tree.specs.TreeView.{param_view};
 ghost use Rattle.c_grammar.specs.Forms as spec;
 ghost use Rattle.c_grammar.specs.Words as words;
+ghost use Rattle.c_grammar.specs.Lists as lists;
 
-use crate::begins::{ItemForm, ParamsForm, StmtForm};
+use crate::begins::{Following, ItemForm, ParamsForm, StmtForm};
 use crate::lookahead::{behind, key_at, next_is, next_kind};
 use crate::type_words::behind_words;
 use c_tokens::{Keyword, Punct, Token, TokenKind};
@@ -112,4 +113,27 @@ pub fn all_named(params: &[Param]) -> bool
         }
     }
     true
+}
+
+/// Whether a further member of a list follows.
+pub fn goes_on(following: Following, tokens: &[Token]) -> bool
+    ensures { result ≡ lists.follows following tokens.now }
+{
+    match following {
+        Following::Comma => next_is(tokens, Punct::Comma),
+        Following::CommaAndMore => further_at(tokens),
+        Following::UpToBrace => !next_is(tokens, Punct::CloseBrace),
+        Following::UpToEnd => !tokens.is_empty(),
+    }
+}
+
+/// Where that member stands: behind the comma, where there is one.
+pub fn further<'a>(following: Following, tokens: &'a [Token]) -> &'a [Token]
+    ensures member { result.now ≡ lists.member_at following tokens.now }
+    ensures shorter { length result.now ≤ length tokens.now }
+{
+    match following {
+        Following::Comma | Following::CommaAndMore => behind(tokens),
+        Following::UpToBrace | Following::UpToEnd => tokens,
+    }
 }

@@ -31,6 +31,16 @@ pub fn place_at(text: &[u8], tokens: &[Token]) -> u32
     }
 }
 
+/// The bytes of the text at a token.
+pub fn name_of<'a>(text: &'a [u8], token: Token) -> &'a [u8]
+    ensures { result.now ≡ spec.name_of text.now token }
+{
+    let start = (token.start as usize).min(text.len());
+    let from = &text[start..];
+    let len = (token.end as usize).saturating_sub(token.start as usize);
+    &from[..len.min(from.len())]
+}
+
 /// What stands behind the next token.
 pub fn behind<'a>(tokens: &'a [Token]) -> &'a [Token]
     ensures { result.now ≡ spec.behind tokens.now }

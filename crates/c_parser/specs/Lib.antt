@@ -1,11 +1,2 @@
-pub mod Words
-pub mod ExprWords
-pub mod ExprGrammar
-pub mod VarGrammar
-pub mod StmtGrammar
-pub mod Grammar
-pub mod Reads
 pub mod Nests
 pub mod Sources
-pub mod StmtReads
-pub mod StmtNests

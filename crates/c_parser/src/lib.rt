@@ -1,35 +1,17 @@
-//! The tree of a C text's tokens.
+//! Declarations, statements and sources: the tree of a C text's tokens.
 
 #![tactic(auto)]
 
-mod begins;
-mod expr;
-mod fault;
+mod conditions;
+mod declarations;
 mod for_heads;
-mod lookahead;
 mod loops;
 mod made;
-mod nested;
-mod operands;
-mod operators;
 mod params;
 mod parser;
-mod prefixes;
-mod read;
-mod read_stmt;
-mod statement;
-mod steps;
-mod stmt_lookahead;
-mod stmt_made;
-mod stmt_parts;
-mod stmts;
+mod sources;
+mod statements;
 mod switches;
-mod type_names;
-mod type_words;
-mod unit_lookahead;
-mod units;
-mod var_lookahead;
-mod vars;
 
-pub use fault::ParseFault;
+pub use c_grammar::ParseFault;
 pub use parser::parse;

@@ -1,202 +1,198 @@
-//! Expressions that stand at a token.
+//! Makers: each takes tokens and parts, and says what the definitions see.
 
-ghost use Rattle.std.specs.Prelude.{◌≡◌, ◌+◌, max, map, IfOk};
-ghost use Rattle.c_tree.specs.TreeView.{kind_view, expr_view, exprs_of};
-ghost use Rattle.c_tree.specs.Levels.{levels, args_levels};
-ghost use Rattle.c_tree.specs.Expr.{Kind};
-ghost use Rattle.c_parser.specs.Words as spec;
-ghost use Rattle.c_parser.specs.ExprWords as spec_expr;
+ghost use Rattle.std.specs.Prelude.{◌≡◌, map, option_map, IfOk};
+ghost use Rattle.c_tree.specs.Stmt.{Stmt as StmtSeen, SwitchItem as ItemSeen};
+ghost use Rattle.c_tree.specs.TreeView.{
+  expr_view,
+  for_view,
+  head_view,
+  init_view,
+  item_view,
+  items_of,
+  other_of,
+  param_view,
+  size_view,
+  stmt_view,
+  var_view,
+};
+ghost use Rattle.c_grammar.specs.Forms as spec;
 
-use crate::begins::{Joint, Sign};
+use c_grammar::name_of;
 use c_tokens::Token;
-use c_tree::{Base, Expr, ExprKind, Ident, make};
-use int_ops::{BinOp, IntType};
-use sqlite_items::Items;
+use c_tree::{
+    Base, Expr, ForHead, Head, Ident, Init, Param, Size, Stmt, SwitchItem, Var, make_stmt,
+};
+use sqlite_items::{Boxed, Items};
 use std::alloc::{AllocError, Global};
 
-/// The bytes of the text at a token.
-pub fn name_of<'a>(text: &'a [u8], token: Token) -> &'a [u8]
-    ensures { result.now ≡ spec.name_of text.now token }
+/// A variable with the name, the place and the line of a token.
+pub fn variable(
+    alloc: Global,
+    text: &[u8],
+    base: Base,
+    name: Token,
+    size: Size,
+    init: Init,
+) -> Result<Var, AllocError>
+    ensures { IfOk result (λ v. var_view v
+        ≡ spec.variable_at text.now base name (size_view size) (init_view init)) }
 {
-    let start = (token.start as usize).min(text.len());
-    let from = &text[start..];
-    let len = (token.end as usize).saturating_sub(token.start as usize);
-    &from[..len.min(from.len())]
+    Ok(Var {
+        base,
+        name: Ident::of(alloc, name_of(text, name))?,
+        size,
+        init,
+        place: name.start,
+        line: name.line,
+    })
 }
 
-/// A form with the place and line of a token.
-pub fn at(token: Token, kind: ExprKind) -> Expr
-    ensures { expr_view result ≡ spec_expr.at token (kind_view kind) }
+/// A parameter with the name and the place of a token.
+pub fn named_param(alloc: Global, text: &[u8], base: Base, name: Token) -> Result<Param, AllocError>
+    ensures { IfOk result (λ p. param_view p ≡ spec.named_param text.now base name) }
 {
-    Expr {
-        kind,
-        place: token.start,
-        line: token.line,
+    Ok(Param {
+        base,
+        name: Some(Ident::of(alloc, name_of(text, name))?),
+        place: name.start,
+    })
+}
+
+/// A parameter without a name, at the place of its first word.
+pub fn nameless_param(base: Base, place: u32) -> Param
+    ensures { param_view result ≡ spec.nameless_param base place }
+{
+    Param {
+        base,
+        name: None,
+        place,
     }
 }
 
-/// A sign and its operand.
-pub fn signed(alloc: Global, token: Token, sign: Sign, operand: Expr) -> Result<Expr, AllocError>
-    ensures tree { IfOk result (λ e. expr_view e
-        ≡ spec_expr.at token (spec_expr.signed sign (expr_view operand))) }
-    ensures levels { IfOk result (λ e. levels (expr_view e) ≡ 1 + levels (expr_view operand)) }
-{
-    let kind = match sign {
-        Sign::Plus => make::plus(alloc, operand)?,
-        Sign::Minus => make::minus(alloc, operand)?,
-        Sign::Complement => make::complement(alloc, operand)?,
-        Sign::Not => make::not(alloc, operand)?,
-    };
-    Ok(at(token, kind))
-}
-
-/// Two operands and what joins them.
-pub fn joined(
-    alloc: Global,
-    token: Token,
-    joint: Joint,
-    left: Expr,
-    right: Expr,
-) -> Result<Expr, AllocError>
-    ensures tree { IfOk result (λ e. expr_view e
-        ≡ spec_expr.at token (spec_expr.joined joint (expr_view left) (expr_view right))) }
-    ensures levels { IfOk result (λ e. levels (expr_view e)
-        ≡ 1 + max (levels (expr_view left)) (levels (expr_view right))) }
-{
-    let kind = match joint {
-        Joint::Operator(op) => make::binary(alloc, op, left, right)?,
-        Joint::AndAlso => make::and_also(alloc, left, right)?,
-        Joint::OrElse => make::or_else(alloc, left, right)?,
-    };
-    Ok(at(token, kind))
-}
-
-/// The name that a token is.
-pub fn name(alloc: Global, text: &[u8], token: Token) -> Result<Expr, AllocError>
-    ensures tree { IfOk result (λ e. expr_view e ≡ spec_expr.at token (Kind.Name (spec.name_of text.now token))) }
-    ensures levels { IfOk result (λ e. levels (expr_view e) ≡ 1) }
-{
-    let kind = ExprKind::Name(Ident::of(alloc, name_of(text, token))?);
-    Ok(at(token, kind))
-}
-
-/// The number that a token is.
-pub fn number(token: Token, number: i128, number_type: IntType) -> Expr
-    ensures tree { expr_view result ≡ spec_expr.at token (Kind.Number number number_type) }
-    ensures levels { levels (expr_view result) ≡ 1 }
-{
-    at(token, ExprKind::Number(number, number_type))
-}
-
-/// The `EOF` that a token is.
-pub fn eof_name(token: Token) -> Expr
-    ensures tree { expr_view result ≡ spec_expr.at token (Kind.EofName) }
-    ensures levels { levels (expr_view result) ≡ 1 }
-{
-    at(token, ExprKind::EofName)
-}
-
-/// An operand in parentheses.
-pub fn paren(alloc: Global, token: Token, operand: Expr) -> Result<Expr, AllocError>
-    ensures tree { IfOk result (λ e. expr_view e ≡ spec_expr.at token (Kind.Paren (expr_view operand))) }
-    ensures levels { IfOk result (λ e. levels (expr_view e) ≡ 1 + levels (expr_view operand)) }
-{
-    let kind = make::paren(alloc, operand)?;
-    Ok(at(token, kind))
-}
-
-/// An element of the array that a token names; the tree stands at the `[`.
-pub fn index(
+/// A function's head with the name, the place and the line of a token.
+pub fn head(
     alloc: Global,
     text: &[u8],
-    array: Token,
-    token: Token,
-    operand: Expr,
-) -> Result<Expr, AllocError>
-    ensures tree { IfOk result (λ e. expr_view e ≡ spec_expr.at token (Kind.Index (spec.name_of text.now array) array.start array.line (expr_view operand))) }
-    ensures levels { IfOk result (λ e. levels (expr_view e) ≡ 1 + levels (expr_view operand)) }
+    base: Base,
+    name: Token,
+    params: Items<Param>,
+) -> Result<Head, AllocError>
+    ensures { IfOk result (λ h. head_view h
+        ≡ spec.head_at text.now base name (map param_view params)) }
 {
-    let kind = make::index(
-        alloc,
-        Ident::of(alloc, name_of(text, array))?,
-        array.start,
-        array.line,
-        operand,
-    )?;
-    Ok(at(token, kind))
+    Ok(Head {
+        base,
+        name: Ident::of(alloc, name_of(text, name))?,
+        params,
+        place: name.start,
+        line: name.line,
+    })
 }
 
-/// `++` or `--` before an operand.
-pub fn before(alloc: Global, token: Token, op: BinOp, operand: Expr) -> Result<Expr, AllocError>
-    ensures tree { IfOk result (λ e. expr_view e ≡ spec_expr.at token (Kind.Before op (expr_view operand))) }
-    ensures levels { IfOk result (λ e. levels (expr_view e) ≡ 1 + levels (expr_view operand)) }
+/// An expression or none, and `;`.
+pub fn value(expr: Option<Boxed<Expr>>) -> Stmt
+    ensures { stmt_view result ≡ spec.value_of (option_map expr_view expr) }
 {
-    let kind = make::before(alloc, op, operand)?;
-    Ok(at(token, kind))
+    match expr {
+        Some(expr) => make_stmt::value(expr),
+        None => Stmt::Empty,
+    }
 }
 
-/// `++` or `--` behind an operand.
-pub fn after(alloc: Global, token: Token, op: BinOp, operand: Expr) -> Result<Expr, AllocError>
-    ensures tree { IfOk result (λ e. expr_view e ≡ spec_expr.at token (Kind.After op (expr_view operand))) }
-    ensures levels { IfOk result (λ e. levels (expr_view e) ≡ 1 + levels (expr_view operand)) }
+/// An expression and `;`.
+pub fn stated(alloc: Global, expr: Expr) -> Result<Stmt, AllocError>
+    ensures { IfOk result (λ s. stmt_view s ≡ StmtSeen.Value (expr_view expr)) }
 {
-    let kind = make::after(alloc, op, operand)?;
-    Ok(at(token, kind))
+    Ok(make_stmt::value(Boxed::new(alloc, expr)?))
 }
 
-/// A cast of an operand.
-pub fn cast(alloc: Global, token: Token, base: Base, operand: Expr) -> Result<Expr, AllocError>
-    ensures tree { IfOk result (λ e. expr_view e ≡ spec_expr.at token (Kind.Cast base (expr_view operand))) }
-    ensures levels { IfOk result (λ e. levels (expr_view e) ≡ 1 + levels (expr_view operand)) }
+/// `break;`, with the place and line of its word.
+pub fn break_(word: Token) -> Stmt
+    ensures { stmt_view result ≡ StmtSeen.Break word.start word.line }
 {
-    let kind = make::cast(alloc, base, operand)?;
-    Ok(at(token, kind))
+    Stmt::Break(word.start, word.line)
 }
 
-/// A test and the two operands that it chooses from.
-pub fn choose(
-    alloc: Global,
-    token: Token,
-    test: Expr,
-    first: Expr,
-    second: Expr,
-) -> Result<Expr, AllocError>
-    ensures tree { IfOk result (λ e. expr_view e ≡ spec_expr.at token (Kind.Choose (expr_view test) (expr_view first) (expr_view second))) }
-    ensures levels { IfOk result (λ e. levels (expr_view e) ≡ 1 + max (levels (expr_view test)) (max (levels (expr_view first)) (levels (expr_view second)))) }
+/// `continue;`, with the place and line of its word.
+pub fn continue_(word: Token) -> Stmt
+    ensures { stmt_view result ≡ StmtSeen.Continue word.start word.line }
 {
-    let kind = make::choose(alloc, test, first, second)?;
-    Ok(at(token, kind))
+    Stmt::Continue(word.start, word.line)
 }
 
-/// An assignment.
-pub fn assign(
-    alloc: Global,
-    token: Token,
-    op: Option<BinOp>,
-    left: Expr,
-    right: Expr,
-) -> Result<Expr, AllocError>
-    ensures tree { IfOk result (λ e. expr_view e ≡ spec_expr.at token (Kind.Assign op (expr_view left) (expr_view right))) }
-    ensures levels { IfOk result (λ e. levels (expr_view e) ≡ 1 + max (levels (expr_view left)) (levels (expr_view right))) }
+/// `return`, with the place and line of its word, an expression or none, and `;`.
+pub fn return_(word: Token, expr: Option<Boxed<Expr>>) -> Stmt
+    ensures { stmt_view result
+        ≡ StmtSeen.Return (option_map expr_view expr) word.start word.line }
 {
-    let kind = make::assign(alloc, op, left, right)?;
-    Ok(at(token, kind))
+    match expr {
+        Some(expr) => make_stmt::return_value(expr, word.start, word.line),
+        None => make_stmt::return_nothing(word.start, word.line),
+    }
 }
 
-/// Two operands with a comma between them.
-pub fn comma(alloc: Global, token: Token, left: Expr, right: Expr) -> Result<Expr, AllocError>
-    ensures tree { IfOk result (λ e. expr_view e ≡ spec_expr.at token (Kind.Comma (expr_view left) (expr_view right))) }
-    ensures levels { IfOk result (λ e. levels (expr_view e) ≡ 1 + max (levels (expr_view left)) (levels (expr_view right))) }
+/// `if (` test `)` first, and what `else` adds.
+pub fn if_(alloc: Global, test: Expr, first: Stmt, other: Option<Stmt>) -> Result<Stmt, AllocError>
+    ensures { IfOk result (λ s. stmt_view s ≡ StmtSeen.If (expr_view test) (stmt_view first)
+        (other_of (option_map stmt_view other))) }
 {
-    let kind = make::comma(alloc, left, right)?;
-    Ok(at(token, kind))
+    let test = Boxed::new(alloc, test)?;
+    match other {
+        Some(second) => Ok(make_stmt::if_else(alloc, test, first, second)?),
+        None => Ok(make_stmt::if_(alloc, test, first)?),
+    }
 }
 
-/// A call of the name that a token is.
-pub fn call(alloc: Global, text: &[u8], token: Token, args: Items<Expr>) -> Result<Expr, AllocError>
-    ensures tree { IfOk result (λ e. expr_view e ≡ spec_expr.at token (Kind.Call (spec.name_of text.now token) (exprs_of (map expr_view args)))) }
-    ensures levels { IfOk result (λ e. levels (expr_view e) ≡ 1 + args_levels (exprs_of (map expr_view args))) }
+/// `while (` test `)` body
+pub fn while_(alloc: Global, test: Expr, body: Stmt) -> Result<Stmt, AllocError>
+    ensures { IfOk result (λ s. stmt_view s ≡ StmtSeen.While (expr_view test) (stmt_view body)) }
 {
-    let kind = make::call(Ident::of(alloc, name_of(text, token))?, args);
-    Ok(at(token, kind))
+    let test = Boxed::new(alloc, test)?;
+    Ok(make_stmt::while_(alloc, test, body)?)
+}
+
+/// `do` body `while (` test `);`, with the line of its `while`.
+pub fn do_while(alloc: Global, body: Stmt, test: Expr, line: u32) -> Result<Stmt, AllocError>
+    ensures { IfOk result (λ s. stmt_view s
+        ≡ StmtSeen.DoWhile (stmt_view body) (expr_view test) line) }
+{
+    let test = Boxed::new(alloc, test)?;
+    Ok(make_stmt::do_while(alloc, body, test, line)?)
+}
+
+/// `for (` head `)` body
+pub fn for_(alloc: Global, head: ForHead, body: Stmt) -> Result<Stmt, AllocError>
+    ensures { IfOk result (λ s. stmt_view s ≡ StmtSeen.For (for_view head) (stmt_view body)) }
+{
+    Ok(make_stmt::for_(alloc, head, body)?)
+}
+
+/// `switch (` value `) {` items `}`
+pub fn switch(alloc: Global, value: Expr, items: Items<SwitchItem>) -> Result<Stmt, AllocError>
+    ensures { IfOk result (λ s. stmt_view s
+        ≡ StmtSeen.Switch (expr_view value) (items_of (map item_view items))) }
+{
+    let value = Boxed::new(alloc, value)?;
+    Ok(make_stmt::switch(value, items))
+}
+
+/// `case` value `:`, with the place of its word.
+pub fn case(alloc: Global, word: Token, value: Expr) -> Result<SwitchItem, AllocError>
+    ensures { IfOk result (λ i. item_view i ≡ ItemSeen.Case (expr_view value) word.start) }
+{
+    Ok(SwitchItem::Case(Boxed::new(alloc, value)?, word.start))
+}
+
+/// `default:`, with the place of its word.
+pub fn default(word: Token) -> SwitchItem
+    ensures { item_view result ≡ ItemSeen.Default word.start }
+{
+    SwitchItem::Default(word.start)
+}
+
+/// A declaration or a statement in the braces of a `switch`.
+pub fn item_of(stmt: Stmt) -> SwitchItem
+    ensures { item_view result ≡ ItemSeen.Item (stmt_view stmt) }
+{
+    SwitchItem::Item(stmt)
 }

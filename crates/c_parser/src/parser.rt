@@ -1,16 +1,18 @@
 //! Tokens to a tree.
 
-ghost use Rattle.std.specs.Prelude.{◌≡◌, IfOk, IfErr};
+ghost use Rattle.std.specs.Prelude.{◌≡◌, ◌≤◌, length, IfOk, IfErr};
+ghost use Rattle.cov_base.specs.Limits.{level_limit, source_limit};
 ghost use Rattle.cov_base.specs.declared.refusal.Refusal.TheVariants as refusal;
 ghost use Rattle.c_tokens.specs.Tokens.{Splits};
+ghost use Rattle.c_tree.specs.Formed.{Formed};
 ghost use Rattle.c_tree.specs.TreeView.{tree_view};
-ghost use Rattle.c_parser.specs.Grammar as grammar;
-ghost use Rattle.c_parser.specs.Reads.{Refuses};
-ghost use Rattle.c_parser.specs.Sources.{Parses, ParseRefuses, UnitAt};
-ghost use Rattle.c_tree.specs.Levels.{most, outer_levels};
+ghost use Rattle.c_grammar.specs.Rules.{Listed, Rule};
+ghost use Rattle.c_grammar.specs.Derivations.{end_from, Front};
+ghost use Rattle.c_grammar.specs.Reads.{Refuses};
+ghost use Rattle.c_parser.specs.Sources.{Parses, ParseRefuses};
 
-use crate::fault::ParseFault;
-use crate::units::read_outers;
+use crate::sources::read_outers;
+use c_grammar::ParseFault;
 use c_tokens::Token;
 use c_tree::Tree;
 use cov_base::{LEVEL_LIMIT, Refusal};
@@ -18,7 +20,7 @@ use std::alloc::Global;
 
 /// The end of the last token, or 0 where there is none.
 fn end_of(tokens: &[Token]) -> u32
-    ensures { result ≡ grammar.end_from 0 tokens.now }
+    ensures { result ≡ end_from 0 tokens.now }
 {
     let mut end = 0;
     for token in tokens {
@@ -27,12 +29,14 @@ fn end_of(tokens: &[Token]) -> u32
     end
 }
 
-/// What a fault of the parts of a source says of the source. Tokens have no deeper tree than there are tokens, so few tokens that
-/// have none within the bound have none at all. The place of `TooDeep` lies behind the start of the 257th token.
-#[tactic(auto, using(crate::proofs::ParseLaws::no_tree, crate::proofs::ParseLaws::too_deep, crate::proofs::ParseLaws::too_few))]
+/// What a fault of the parts of a source says of the source. Tokens have no deeper tree than there
+/// are tokens, so few tokens that have none within the bound have none at all. The place of
+/// `TooDeep` lies behind the start of the 257th token.
+#[tactic(auto, using(crate::proofs::ParseLaws::no_tree, crate::proofs::ParseLaws::too_few))]
 fn told_fault(text: &[u8], tokens: &[Token], fault: ParseFault) -> ParseFault
     requires splits { Splits text.now tokens.now }
-    requires refused { Refuses (UnitAt text.now tokens.now) (most outer_levels) 256 (refusal.Refused fault) }
+    requires refused { Refuses (Front text.now (Rule.more Listed.outers) tokens.now) level_limit
+        (refusal.Refused fault) }
     ensures { ParseRefuses text.now tokens.now (refusal.Refused result) }
 {
     match fault {
@@ -48,7 +52,8 @@ fn told_fault(text: &[u8], tokens: &[Token], fault: ParseFault) -> ParseFault
 #[tactic(auto, using(crate::proofs::ParseLaws::memory))]
 fn told(text: &[u8], tokens: &[Token], refusal: Refusal<ParseFault>) -> Refusal<ParseFault>
     requires splits { Splits text.now tokens.now }
-    requires refused { Refuses (UnitAt text.now tokens.now) (most outer_levels) 256 refusal }
+    requires refused { Refuses (Front text.now (Rule.more Listed.outers) tokens.now) level_limit
+        refusal }
     ensures { ParseRefuses text.now tokens.now result }
 {
     match refusal {
@@ -61,21 +66,26 @@ fn told(text: &[u8], tokens: &[Token], refusal: Refusal<ParseFault>) -> Refusal<
 ///
 /// # Errors
 ///
-/// `Syntax` where no tree derives the tokens, with the start of the token at which the grammar stopped, or the length of the text where
-/// the tokens end too early. `TooDeep` where none of at most 256 levels does; more than 256 tokens begin before its place. `NoMemory`
-/// where memory ran out.
-#[tactic(auto, using(crate::proofs::ParseLaws::parsed))]
+/// `Syntax` where no tree derives the tokens, with the start of the token at which the grammar
+/// stopped, or the length of the text where the tokens end too early. `TooDeep` where none of at
+/// most 256 levels does; more than 256 tokens begin before its place. `NoMemory` where memory ran
+/// out.
 pub fn parse(alloc: Global, text: &[u8], tokens: &[Token]) -> Result<Tree, Refusal<ParseFault>>
     requires { Splits text.now tokens.now }
     ensures ok { IfOk result (λ tree. Parses text.now tokens.now (tree_view tree)) }
     ensures err { IfErr result (λ e. ParseRefuses text.now tokens.now e) }
+
+    // The tree of a source is formed: its lines are those of a source, its numbers lie in their
+    // types, and what the grammar asks to be there is there.
+    ensures formed { IfOk result (λ tree. length text.now ≤ source_limit
+        → Formed (tree_view tree)) }
 {
     let outers = match read_outers(alloc, text, tokens, LEVEL_LIMIT) {
         Ok(outers) => outers,
         Err(refusal) => return Err(told(text, tokens, refusal)),
     };
     Ok(Tree {
-        outers,
+        outers: outers.tree,
         end: end_of(tokens),
     })
 }

@@ -1,189 +1,146 @@
-//! `switch`, its labels and its items.
+//! Readers of `switch`, its labels and its items.
 
-ghost use Rattle.std.specs.Prelude.{◌≡◌, ◌+◌, ◌<◌, ◌≤◌, map, length, IfOk, IfErr};
-ghost use Rattle.c_tree.specs.TreeView.{item_view, items_of, stmt_view};
-ghost use Rattle.c_tree.specs.Levels.{item_levels, items_levels, stmt_levels};
-ghost use Rattle.c_parser.specs.declared.begins.ItemForm.TheVariants as part;
-ghost use Rattle.c_parser.specs.declared.begins.StmtForm.TheVariants as form;
-ghost use Rattle.c_parser.specs.VarGrammar.{close_brace_at};
-ghost use Rattle.c_parser.specs.StmtGrammar as spec;
-ghost use Rattle.c_parser.specs.StmtGrammar.{StmtRule, StmtFront};
-ghost use Rattle.c_parser.specs.Reads.{Refuses};
-ghost use Rattle.c_parser.specs.StmtReads.{Cases};
-ghost use Rattle.c_parser.specs.StmtNests.{StmtNests};
+ghost use Rattle.std.specs.Prelude.{ℕ, ◌+◌, ◌<◌, map};
+ghost use Rattle.c_tree.specs.TreeView.{item_view, stmt_view};
+ghost use Rattle.c_grammar.specs.declared.begins.ItemForm.TheVariants as label;
+ghost use Rattle.c_grammar.specs.declared.begins.StmtForm.TheVariants as form;
+ghost use Rattle.c_grammar.specs.Rules.{Listed, Rule};
+ghost use Rattle.c_grammar.specs.Grammar as grammar;
+ghost use Rattle.c_grammar.specs.Derivations.{By, Front};
+ghost use Rattle.c_grammar.specs.Reads.{Reads};
+ghost use Rattle.c_parser.specs.Nests.{Nests};
 
-use crate::begins::ItemForm;
-use crate::expr::read_conditional;
-use crate::fault::ParseFault;
-use crate::lookahead::{behind, place_at};
-use crate::read::behind_mark;
-use crate::read_stmt::{ReadSwitchItem, ReadSwitchItems};
-use crate::statement::{ReadStmt, Statements, StmtNest};
-use crate::stmt_lookahead::item_at;
-use crate::stmt_made;
-use crate::stmt_parts::read_condition;
-use crate::var_lookahead::close_brace_at;
+use crate::conditions::read_condition;
+use crate::made;
+use crate::statements::{Statements, read_item};
+use c_exprs::{read_conditional, read_more};
+use c_grammar::{Following, Found, ItemForm, Read, expect, item_at, next_token};
 use c_tokens::{Punct, Token};
-use cov_base::Refusal;
+use c_tree::{Stmt, SwitchItem};
 use sqlite_items::Items;
 use std::alloc::Global;
 
-impl<
-    'a,
-    F: Fn(
-        Global,
-        &'a [u8],
-        &'a [Token],
-        StmtNest,
-        u32,
-    ) -> Result<ReadStmt<'a>, Refusal<ParseFault>>,
-> Statements<'a, F> {
-    /// `case`, a value and `:`.
-    #[tactic(auto, using(crate::proofs::SwitchLaws::case_front, crate::proofs::SwitchLaws::case_refused, crate::proofs::SwitchLaws::no_colon, crate::proofs::SwitchLaws::case_alone, crate::proofs::ReadLaws::memory))]
-    fn case(&self, tokens: &'a [Token]) -> Result<ReadSwitchItem<'a>, Refusal<ParseFault>>
-        ensures front { IfOk result (λ found. StmtFront self.now.text.now (StmtRule.switch_item part.Case) tokens.now (item_view found.item) found.rest.now) }
-        ensures levels { IfOk result (λ found. found.levels ≡ item_levels (item_view found.item)) }
-        ensures fits { IfOk result (λ found. found.levels ≤ self.now.room) }
-        ensures shorter { IfOk result (λ found. length found.rest.now < length tokens.now) }
-        ensures refused { IfErr result (λ e. Refuses (StmtFront self.now.text.now (StmtRule.switch_item part.Case) tokens.now) item_levels self.now.room e) }
-    {
-        let Some((first, behind)) = tokens.split_first() else {
-            return Err(Refusal::Refused(ParseFault::Syntax(place_at(self.text, tokens))));
-        };
-        let found = read_conditional(self.alloc, self.text, behind, self.room)?;
-        let Some(rest) = behind_mark(found.rest, Punct::Colon) else {
-            return Err(Refusal::Refused(ParseFault::Syntax(place_at(self.text, found.rest))));
-        };
-        Ok(ReadSwitchItem {
-            item: stmt_made::case(self.alloc, *first, found.tree)?,
-            levels: found.levels,
-            rest,
-        })
-    }
+/// `case`, a value and `:`.
+fn read_case<'a>(
+    alloc: Global,
+    text: &'a [u8],
+    tokens: &'a [Token],
+    room: u32,
+) -> Read<'a, SwitchItem>
+    ensures { Reads item_view (By text.now Rule.switch_item (grammar.switch_item_as label.Case)
+        tokens.now) room result }
+{
+    let word = next_token(text, tokens)?;
+    let value = read_conditional(alloc, text, word.rest, room)?;
+    let colon = expect(text, value.rest, Punct::Colon)?;
+    Ok(Found {
+        tree: made::case(alloc, word.tree, value.tree)?,
+        levels: value.levels,
+        rest: colon.rest,
+    })
+}
 
-    /// `default:`
-    #[tactic(auto, using(crate::proofs::SwitchLaws::default_refused, crate::proofs::SwitchLaws::default_alone))]
-    fn default(&self, tokens: &'a [Token]) -> Result<ReadSwitchItem<'a>, Refusal<ParseFault>>
-        ensures front { IfOk result (λ found. StmtFront self.now.text.now (StmtRule.switch_item part.Default) tokens.now (item_view found.item) found.rest.now) }
-        ensures levels { IfOk result (λ found. found.levels ≡ item_levels (item_view found.item)) }
-        ensures fits { IfOk result (λ found. found.levels ≤ self.now.room) }
-        ensures shorter { IfOk result (λ found. length found.rest.now < length tokens.now) }
-        ensures refused { IfErr result (λ e. Refuses (StmtFront self.now.text.now (StmtRule.switch_item part.Default) tokens.now) item_levels self.now.room e) }
-    {
-        let Some((first, behind)) = tokens.split_first() else {
-            return Err(Refusal::Refused(ParseFault::Syntax(place_at(self.text, tokens))));
-        };
-        let Some(rest) = behind_mark(behind, Punct::Colon) else {
-            return Err(Refusal::Refused(ParseFault::Syntax(place_at(self.text, behind))));
-        };
-        Ok(ReadSwitchItem {
-            item: stmt_made::default(*first),
-            levels: 0,
-            rest,
-        })
-    }
+/// `default:`
+fn read_default<'a>(text: &'a [u8], tokens: &'a [Token]) -> Read<'a, SwitchItem>
+    ensures { (room : ℕ) → Reads item_view
+        (By text.now Rule.switch_item (grammar.switch_item_as label.Default) tokens.now) room
+        result }
+{
+    let word = next_token(text, tokens)?;
+    let colon = expect(text, word.rest, Punct::Colon)?;
+    Ok(Found {
+        tree: made::default(word.tree),
+        levels: 0,
+        rest: colon.rest,
+    })
+}
 
-    /// A declaration or a statement in the braces of a `switch`.
-    #[tactic(auto, using(crate::proofs::SwitchLaws::switch_states, crate::proofs::SwitchLaws::switch_states_refused))]
-    fn switch_states(&self, tokens: &'a [Token]) -> Result<ReadSwitchItem<'a>, Refusal<ParseFault>>
-        requires { StmtNests self.now.room (F.pre self.now.inner) (F.post self.now.inner) }
-        ensures front { IfOk result (λ found. StmtFront self.now.text.now (StmtRule.switch_item part.Item) tokens.now (item_view found.item) found.rest.now) }
-        ensures levels { IfOk result (λ found. found.levels ≡ item_levels (item_view found.item)) }
-        ensures fits { IfOk result (λ found. found.levels ≤ self.now.room) }
-        ensures shorter { IfOk result (λ found. length found.rest.now < length tokens.now) }
-        ensures refused { IfErr result (λ e. Refuses (StmtFront self.now.text.now (StmtRule.switch_item part.Item) tokens.now) item_levels self.now.room e) }
-    {
-        let found = self.inner(tokens, StmtNest::Item)?;
-        Ok(ReadSwitchItem {
-            item: stmt_made::item(found.tree),
-            levels: found.levels,
-            rest: found.rest,
-        })
-    }
+/// A declaration or a statement in the braces of a `switch`.
+fn read_labelled<'a, F: Copy + Fn(Global, &'a [u8], &'a [Token], u32) -> Read<'a, Stmt>>(
+    alloc: Global,
+    text: &'a [u8],
+    tokens: &'a [Token],
+    inner: F,
+    room: u32,
+) -> Read<'a, SwitchItem>
+    requires { Nests room (F.pre inner) (F.post inner) }
+    ensures { Reads item_view (By text.now Rule.switch_item (grammar.switch_item_as label.Item)
+        tokens.now) room result }
+{
+    let item = read_item(alloc, text, tokens, inner, room)?;
+    Ok(Found {
+        tree: made::item_of(item.tree),
+        levels: item.levels,
+        rest: item.rest,
+    })
+}
 
-    /// A label of a `switch`, or an item.
-    #[tactic(auto, using(crate::proofs::SwitchLaws::label_here, crate::proofs::SwitchLaws::label_refused))]
-    fn switch_item(&self, tokens: &'a [Token]) -> Result<ReadSwitchItem<'a>, Refusal<ParseFault>>
-        requires { StmtNests self.now.room (F.pre self.now.inner) (F.post self.now.inner) }
-        ensures front { IfOk result (λ found. StmtFront self.now.text.now (StmtRule.switch_item (spec.item_at tokens.now)) tokens.now (item_view found.item) found.rest.now) }
-        ensures levels { IfOk result (λ found. found.levels ≡ item_levels (item_view found.item)) }
-        ensures fits { IfOk result (λ found. found.levels ≤ self.now.room) }
-        ensures shorter { IfOk result (λ found. length found.rest.now < length tokens.now) }
-        ensures refused { IfErr result (λ e. Refuses (StmtFront self.now.text.now (StmtRule.switch_item (spec.item_at tokens.now)) tokens.now) item_levels self.now.room e) }
-    {
-        match item_at(tokens) {
-            ItemForm::Case => Ok(self.case(tokens)?),
-            ItemForm::Default => Ok(self.default(tokens)?),
-            ItemForm::Item => Ok(self.switch_states(tokens)?),
-        }
+/// A label of a `switch`, or an item. The function value reads statements.
+fn read_switch_item<'a, F: Copy + Fn(Global, &'a [u8], &'a [Token], u32) -> Read<'a, Stmt>>(
+    alloc: Global,
+    text: &'a [u8],
+    tokens: &'a [Token],
+    inner: F,
+    room: u32,
+) -> Read<'a, SwitchItem>
+    requires { Nests room (F.pre inner) (F.post inner) }
+    ensures { Reads item_view (Front text.now Rule.switch_item tokens.now) room result }
+{
+    match item_at(tokens) {
+        ItemForm::Case => read_case(alloc, text, tokens, room),
+        ItemForm::Default => read_default(text, tokens),
+        ItemForm::Item => read_labelled(alloc, text, tokens, inner, room),
     }
+}
 
+impl<'a, F: Copy + Fn(Global, &'a [u8], &'a [Token], u32) -> Read<'a, Stmt>> Statements<'a, F> {
     /// Labels and items, up to `}`.
-    #[tactic(auto, using(crate::proofs::SwitchLaws::switch_begun, crate::proofs::SwitchLaws::switch_pushed, crate::proofs::SwitchLaws::switch_read, crate::proofs::SwitchLaws::switch_item_refused, crate::proofs::SwitchLaws::switch_levels, crate::proofs::ReadLaws::memory))]
-    fn switch_items(&self, tokens: &'a [Token]) -> Result<ReadSwitchItems<'a>, Refusal<ParseFault>>
-        requires { StmtNests self.now.room (F.pre self.now.inner) (F.post self.now.inner) }
-        ensures front { IfOk result (λ found. StmtFront self.now.text.now (StmtRule.switch_items (close_brace_at tokens.now)) tokens.now (items_of (map item_view found.items)) found.rest.now) }
-        ensures levels { IfOk result (λ found. found.levels ≡ items_levels (items_of (map item_view found.items))) }
-        ensures fits { IfOk result (λ found. found.levels ≤ self.now.room) }
-        ensures shorter { IfOk result (λ found. length found.rest.now ≤ length tokens.now) }
-        ensures refused { IfErr result (λ e. Refuses (StmtFront self.now.text.now (StmtRule.switch_items (close_brace_at tokens.now)) tokens.now) items_levels self.now.room e) }
+    fn switch_items(&self, tokens: &'a [Token]) -> Read<'a, Items<SwitchItem>>
+        requires { Nests self.now.room (F.pre self.now.inner) (F.post self.now.inner) }
+        ensures { Reads (map item_view)
+            (Front self.now.text.now (Rule.more Listed.switch_items) tokens.now) self.now.room
+            result }
     {
-        let mut items = Items::new(self.alloc);
-        let mut levels = 0;
-        let mut rest = tokens;
-        while !close_brace_at(rest) {
-            let next = self.switch_item(rest)?;
-            levels = levels.max(next.levels);
-            items.push(next.item)?;
-            rest = next.rest;
-        }
-        Ok(ReadSwitchItems {
-            items,
-            levels,
-            rest,
-        })
+        read_more(
+            self.alloc,
+            self.text,
+            Following::UpToBrace,
+            tokens,
+            self.inner,
+            self.room,
+            read_switch_item,
+        )
     }
 
     /// Labels and items in braces.
-    #[tactic(auto, using(crate::proofs::SwitchLaws::cases_front, crate::proofs::SwitchLaws::items_refused, crate::proofs::SwitchLaws::not_opened, crate::proofs::SwitchLaws::not_closed))]
-    fn cases(&self, tokens: &'a [Token]) -> Result<ReadSwitchItems<'a>, Refusal<ParseFault>>
-        requires { StmtNests self.now.room (F.pre self.now.inner) (F.post self.now.inner) }
-        ensures front { IfOk result (λ found. Cases self.now.text.now tokens.now (items_of (map item_view found.items)) found.rest.now) }
-        ensures levels { IfOk result (λ found. found.levels ≡ items_levels (items_of (map item_view found.items))) }
-        ensures fits { IfOk result (λ found. found.levels ≤ self.now.room) }
-        ensures shorter { IfOk result (λ found. length found.rest.now < length tokens.now) }
-        ensures refused { IfErr result (λ e. Refuses (Cases self.now.text.now tokens.now) items_levels self.now.room e) }
+    fn cases(&self, tokens: &'a [Token]) -> Read<'a, Items<SwitchItem>>
+        requires { Nests self.now.room (F.pre self.now.inner) (F.post self.now.inner) }
+        ensures { Reads (map item_view) (Front self.now.text.now Rule.cases tokens.now)
+            self.now.room result }
     {
-        let Some(inside) = behind_mark(tokens, Punct::OpenBrace) else {
-            return Err(Refusal::Refused(ParseFault::Syntax(place_at(self.text, tokens))));
-        };
-        let found = self.switch_items(inside)?;
-        let Some(rest) = behind_mark(found.rest, Punct::CloseBrace) else {
-            return Err(Refusal::Refused(ParseFault::Syntax(place_at(self.text, found.rest))));
-        };
-        Ok(ReadSwitchItems {
-            items: found.items,
-            levels: found.levels,
-            rest,
+        let open = expect(self.text, tokens, Punct::OpenBrace)?;
+        let items = self.switch_items(open.rest)?;
+        let close = expect(self.text, items.rest, Punct::CloseBrace)?;
+        Ok(Found {
+            tree: items.tree,
+            levels: items.levels,
+            rest: close.rest,
         })
     }
 
-    /// `switch`, its value, and labels and items in braces.
-    #[tactic(auto, using(crate::proofs::SwitchLaws::switch_front, crate::proofs::SwitchLaws::switch_value_refused, crate::proofs::SwitchLaws::switch_cases_refused, crate::proofs::ConditionLaws::behind_shorter, crate::proofs::ReadLaws::memory))]
-    pub fn switch(&self, tokens: &'a [Token]) -> Result<ReadStmt<'a>, Refusal<ParseFault>>
-        requires nests { StmtNests self.now.room (F.pre self.now.inner) (F.post self.now.inner) }
+    /// `switch`, its value and its labels and items.
+    pub fn switch(&self, tokens: &'a [Token]) -> Read<'a, Stmt>
+        requires nests { Nests self.now.room (F.pre self.now.inner) (F.post self.now.inner) }
         requires few { self.now.room < u32.MAX }
-        ensures front { IfOk result (λ found. StmtFront self.now.text.now (StmtRule.statement form.Switch) tokens.now (stmt_view found.tree) found.rest.now) }
-        ensures levels { IfOk result (λ found. found.levels ≡ stmt_levels (stmt_view found.tree)) }
-        ensures fits { IfOk result (λ found. found.levels ≤ self.now.room + 1) }
-        ensures shorter { IfOk result (λ found. length found.rest.now < length tokens.now) }
-        ensures refused { IfErr result (λ e. Refuses (StmtFront self.now.text.now (StmtRule.statement form.Switch) tokens.now) stmt_levels (self.now.room + 1) e) }
+        ensures { Reads stmt_view (By self.now.text.now Rule.statement
+            (grammar.statement_as form.Switch) tokens.now) (self.now.room + 1) result }
     {
-        let value = read_condition(self.alloc, self.text, behind(tokens), self.room)?;
+        let word = next_token(self.text, tokens)?;
+        let value = read_condition(self.alloc, self.text, word.rest, self.room)?;
         let cases = self.cases(value.rest)?;
-        Ok(ReadStmt {
+        Ok(Found {
+            tree: made::switch(self.alloc, value.tree, cases.tree)?,
             levels: value.levels.max(cases.levels) + 1,
-            tree: stmt_made::switch(self.alloc, value.tree, cases.items)?,
             rest: cases.rest,
         })
     }

@@ -7,7 +7,7 @@ use Rattle.c_tokens.specs.declared.token.Token.{Token}
 use Rattle.c_tokens.specs.Scans.{HasTokens, HasFault}
 use Rattle.c_tokens.specs.Tokens.{Splits}
 use Rattle.c_tree.specs.Tree.{Tree}
-use Rattle.c_parser.specs.declared.fault.ParseFault.{ParseFault}
+use Rattle.c_grammar.specs.declared.fault.ParseFault.{ParseFault}
 use Rattle.c_parser.specs.Sources.{Parses, ParseRefuses}
 use Rattle.front_rows.specs.declared.text_tree.TextFault.TheVariants as fault
 use Rattle.front_rows.specs.TextTree.{IsTreeOf, RefusesText}

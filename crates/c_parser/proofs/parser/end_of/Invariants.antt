@@ -1,5 +1,5 @@
 use Rattle.std.proofs.Common.{◌≡◌, drop}
-use Rattle.c_parser.specs.Grammar.{end_from}
+use Rattle.c_grammar.specs.Derivations.{end_from}
 use Rattle.c_parser.proofs.parser.end_of.Given as goal
 
 -- the end from here is the end of all

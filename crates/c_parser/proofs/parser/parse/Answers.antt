@@ -1,5 +1,9 @@
+use Rattle.c_grammar.proofs.Formed.{derived_formed}
 use Rattle.c_parser.proofs.ParseLaws.{parsed}
 use Rattle.c_parser.proofs.parser.parse.Goals as goal
 
 pub returns-clause-ok : goal.returns-clause-ok
-returns-clause-ok c = parsed c.in-Ok.ensures.front c.end_of.ensures c.in-Ok.ensures.fits
+returns-clause-ok c = parsed c.in-Ok.ensures c.end_of.ensures
+
+pub returns-clause-formed : goal.returns-clause-formed
+returns-clause-formed c = λ l. derived_formed c.requires l (parsed c.in-Ok.ensures c.end_of.ensures).derives

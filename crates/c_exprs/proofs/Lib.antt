@@ -1,0 +1,7 @@
+pub mod ListLaws
+pub mod MadeLaws
+pub mod OperandLaws
+pub mod SideLaws
+pub mod ChainLaws
+pub mod TailLaws
+pub mod InnerLaws

@@ -1,0 +1,23 @@
+use Rattle.std.proofs.Common.{refl, sym}
+use Rattle.c_grammar.proofs.Laws.{by_look}
+use Rattle.c_grammar.proofs.Steps.{value_read}
+use Rattle.c_grammar.specs.Rules.{Rule}
+use Rattle.c_grammar.specs.Words.{next_is}
+use Rattle.c_parser.proofs.Exits.{chosen_read}
+use Rattle.c_tree.specs.TreeView.{size_view}
+use Rattle.c_tokens.specs.declared.token.Punct.TheVariants as mark
+use Rattle.c_grammar.specs.Grammar as grammar
+use Rattle.c_parser.proofs.declarations.read_size.Goals as goal
+
+pub returns-then-next_is : goal.returns-then-next_is
+returns-then-next_is c =
+    by_look c.args.text.now Rule.size size_view grammar.size_as
+    (next_is mark.OpenBracket) c.args.tokens.now c.args.room
+    (sym c.if-next_is.ensures) c.read_brackets.result
+    c.read_brackets.ensures
+
+pub returns : goal.returns
+returns c =
+    chosen_read c.args.text.now Rule.size grammar.size_as
+    (next_is mark.OpenBracket) c.args.tokens.now c.if-next_is.ensures
+    (value_read Rule.size refl)

@@ -1,4 +1,0 @@
-use Rattle.c_parser.proofs.nested.+read_inner.Given as goal
-
-abbrev pub decreases-read_inner : goal.decreases-read_inner
-decreases-read_inner l = l.room

@@ -1,6 +1,0 @@
-use Rattle.c_parser.specs.Words.{type_lists}
-use Rattle.c_parser.proofs.type_names.base_at.Goals as goal
-
-pub returns : goal.returns
-unfolding type_lists
-returns c = c.named_by.ensures
