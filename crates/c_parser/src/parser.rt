@@ -9,6 +9,7 @@ ghost use Rattle.c_tree.specs.TreeView.{tree_view};
 ghost use Rattle.c_grammar.specs.Rules.{Listed, Rule};
 ghost use Rattle.c_grammar.specs.Derivations.{end_from, Front};
 ghost use Rattle.c_grammar.specs.Reads.{Refuses};
+ghost use Rattle.c_syntax.specs.Syntax.{IsSource};
 ghost use Rattle.c_parser.specs.Sources.{Parses, ParseRefuses};
 
 use crate::sources::read_outers;
@@ -74,6 +75,9 @@ pub fn parse(alloc: Global, text: &[u8], tokens: &[Token]) -> Result<Tree, Refus
     requires { Splits text.now tokens.now }
     ensures ok { IfOk result (λ tree. Parses text.now tokens.now (tree_view tree)) }
     ensures err { IfErr result (λ e. ParseRefuses text.now tokens.now e) }
+
+    // By the grammar of C17, without look-ahead, the tokens are a source with this tree.
+    ensures source { IfOk result (λ tree. IsSource text.now tokens.now (tree_view tree)) }
 
     // The tree of a source is formed: its lines are those of a source, its numbers lie in their
     // types, and what the grammar asks to be there is there.
