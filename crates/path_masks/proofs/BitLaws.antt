@@ -1,5 +1,36 @@
 -- One bit along a walk: begin, keep, finish and start.
-use Rattle.std.proofs.Common.{◌≡◌, refl, sym, ap, ap₂, subst, ◌∙◌, ℕ, ◌≤◌, ◌||◌, ◌&&◌, ◌==◌, List, [], ◌∷◌, ◌++◌, length, Bool, true, false, not, ◌⊎◌, inl, inr, arith, eq-eqb, eqb-true, append_assoc, append-nil, Decides}
+use Rattle.std.proofs.Common.{
+  ◌≡◌,
+  refl,
+  sym,
+  ap,
+  ap₂,
+  subst,
+  ◌∙◌,
+  ℕ,
+  ◌≤◌,
+  ◌||◌,
+  ◌&&◌,
+  ◌==◌,
+  List,
+  [],
+  ◌∷◌,
+  ◌++◌,
+  length,
+  Bool,
+  true,
+  false,
+  not,
+  ◌⊎◌,
+  inl,
+  inr,
+  arith,
+  eq-eqb,
+  eqb-true,
+  append_assoc,
+  append-nil,
+  Decides,
+}
 use Rattle.std.proofs.lemmas.Bool.{or_cases, or_left, or_right, and_parts, and_from}
 use Rattle.prime_paths.specs.Paths.{among, distinct, front_of, is_simple}
 use Rattle.prime_paths.proofs.SimplePaths.{last_split}

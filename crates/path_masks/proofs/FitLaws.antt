@@ -1,6 +1,49 @@
 -- The prime paths of a net are fit for its masks.
-use Rattle.std.proofs.Common.{◌≡◌, refl, sym, ap, subst, ◌∙◌, ℕ, zero, suc, ◌<◌, ◌≤◌, ◌≢◌, ◌&&◌, ◌==◌, cond, List, [], ◌∷◌, length, Bool, true, false, not, ◌⊎◌, inl, inr, arith, eq-eqb, eqb-true, ltb, leb}
-use Rattle.std.proofs.lemmas.Bool.{and_parts, and_from, or_parts, cases_eq, ne_eqb, both_ways, ltb-true, leb-true, le-leb, lt-ltb}
+use Rattle.std.proofs.Common.{
+  ◌≡◌,
+  refl,
+  sym,
+  ap,
+  subst,
+  ◌∙◌,
+  ℕ,
+  zero,
+  suc,
+  ◌<◌,
+  ◌≤◌,
+  ◌≢◌,
+  ◌&&◌,
+  ◌==◌,
+  cond,
+  List,
+  [],
+  ◌∷◌,
+  length,
+  Bool,
+  true,
+  false,
+  not,
+  ◌⊎◌,
+  inl,
+  inr,
+  arith,
+  eq-eqb,
+  eqb-true,
+  ltb,
+  leb,
+}
+use Rattle.std.proofs.lemmas.Bool.{
+  and_parts,
+  and_from,
+  or_parts,
+  cases_eq,
+  ne_eqb,
+  both_ways,
+  ltb-true,
+  leb-true,
+  le-leb,
+  lt-ltb,
+}
 use Rattle.cov_base.specs.Falls.{is_real}
 use Rattle.cov_base.specs.Net.{NetValue, IsNet, Leads, joins, is_outside, is_wrong_entry, is_misplaced}
 use Rattle.cov_base.specs.declared.net.FlowArc.{FlowArc}

@@ -1,18 +1,90 @@
 -- Along any walk the words keep exactly the bits of the paths under way, and gain exactly those of the paths that it
 -- contains.
-use Rattle.std.proofs.Common.{◌≡◌, refl, sym, ap, ap₂, subst, ◌∙◌, ℕ, zero, suc, ◌+◌, ◌*◌, ◌≤◌, ◌<◌, ◌||◌, ◌&&◌, List, [], ◌∷◌, ◌++◌, map, length, get_or, Bool, true, false, cond, ◌⊎◌, inl, inr, arith, fold, bit_and, bit_or, ◌≢◌, append_assoc, append-nil, take, drop, replicate}
+use Rattle.std.proofs.Common.{
+  ◌≡◌,
+  refl,
+  sym,
+  ap,
+  ap₂,
+  subst,
+  ◌∙◌,
+  ℕ,
+  zero,
+  suc,
+  ◌+◌,
+  ◌*◌,
+  ◌/◌,
+  ◌%◌,
+  ◌≤◌,
+  ◌<◌,
+  ◌||◌,
+  ◌&&◌,
+  List,
+  [],
+  ◌∷◌,
+  ◌++◌,
+  map,
+  length,
+  get_or,
+  Bool,
+  true,
+  false,
+  cond,
+  ◌⊎◌,
+  inl,
+  inr,
+  arith,
+  fold,
+  bit_and,
+  bit_or,
+  ◌≢◌,
+  append_assoc,
+  append-nil,
+  take,
+  drop,
+  replicate,
+}
 use Rattle.std.specs.List.{list_any}
-use Rattle.std.proofs.lemmas.Bool.{or_parts}
-use Rattle.std.proofs.lemmas.List.{length-map, length-replicate, length-set, get_or-set_same, get_or-set_other, ext_get_or}
+use Rattle.std.specs.Int.{bit_at}
+use Rattle.std.proofs.lemmas.Bool.{or_parts, cases_lt}
+use Rattle.std.proofs.lemmas.Nat.Bits.{bit_at-zero}
+use Rattle.std.proofs.lemmas.List.{
+  length-map,
+  length-replicate,
+  length-set,
+  get_or-set_same,
+  get_or-set_other,
+  ext_get_or,
+}
 use Rattle.prime_paths.specs.Paths.{among, Among, Contains}
 use Rattle.prime_paths.specs.Lister.{numbers}
 use Rattle.prime_paths.proofs.ListFacts.{any_false, numbers_length}
 use Rattle.prime_paths.proofs.SimplePaths.{Some_in}
 use Rattle.path_masks.specs.UnderWay.{begins_at, has_move, ends_by_move, is_just}
 use Rattle.word_rules.specs.WordRules.{BeginEntry, PassEntry, Words, begun, passed, begin_by, pass_by}
-use Rattle.path_masks.specs.Masks.{contains, is_under_way, one_if, word_of, chunk, width, words_of, bits_of, begin_entry, row_of_start, pass_entry, touches, row_of_move, goes_by, walks_by, all_walks_by, AreFit, StandFor}
+use Rattle.path_masks.specs.Masks.{
+  contains,
+  is_under_way,
+  one_if,
+  nth,
+  word_of,
+  chunk,
+  width,
+  words_of,
+  bits_of,
+  begin_entry,
+  row_of_start,
+  pass_entry,
+  touches,
+  row_of_move,
+  goes_by,
+  walks_by,
+  all_walks_by,
+  AreFit,
+  StandFor,
+}
 use Rattle.path_masks.proofs.WalkBits.{under_first, contains_first, under_more, seen_more, not_under, contains_still}
-use Rattle.path_masks.proofs.WordLaws.{word_and, word_or, word_same, get_numbers, EachWord, each_word}
+use Rattle.path_masks.proofs.WordLaws.{bit_of_word, word_and, word_or, word_same, get_numbers, EachWord, each_word}
 
 -- ---- members of a chunk
 
@@ -375,3 +447,52 @@ pub all_seen : (s : ℕ) (ps walks : List (List ℕ)) (ws : Words) → AreFit s 
     ≡ words_of (λ p. false) ps
     → (all_walks_by ps s walks ws).seen ≡ bits_of ps (map (λ walk. s ∷ walk) walks)
 all_seen s ps walks ws fit long h = all_stand s (λ p. false) ps walks ws fit long h
+
+-- ---- bits of words
+
+nth_take : (t : List ℕ → Bool) (n : ℕ) (ps : List (List ℕ)) (k : ℕ) → k < n → nth t (take n ps) k ≡ nth t ps k
+nth_take t zero ps k l = absurd (omega (arith, l))
+nth_take t (suc n) [] k l = refl
+nth_take t (suc n) (p ∷ ps) zero l = refl
+nth_take t (suc n) (p ∷ ps) (suc k) l = nth_take t n ps k (omega (arith, l))
+
+nth_drop : (t : List ℕ → Bool) (n : ℕ) (ps : List (List ℕ)) (k : ℕ) → nth t (drop n ps) k ≡ nth t ps (n + k)
+nth_drop t zero ps k = ap (nth t ps) same
+  where
+    same : k ≡ 0 + k
+    same = omega arith
+nth_drop t (suc n) [] k = refl
+nth_drop t (suc n) (p ∷ ps) k = nth_drop t n ps k ∙ ap (nth t (p ∷ ps)) same
+  where
+    same : suc (n + k) ≡ suc n + k
+    same = omega arith
+
+nth_none : (t : List ℕ → Bool) (ps : List (List ℕ)) (k : ℕ) → length ps ≤ k → nth t ps k ≡ false
+nth_none t [] k l = refl
+nth_none t (p ∷ ps) zero l = absurd (omega (arith, l))
+nth_none t (p ∷ ps) (suc k) l = nth_none t ps k (omega (arith, l))
+
+beyond_all : (ws : List ℕ) (j : ℕ) → length ws ≤ j → get_or ws j 0 ≡ 0
+beyond_all [] j l = refl
+beyond_all (w ∷ ws) zero l = absurd (omega (arith, l))
+beyond_all (w ∷ ws) (suc j) l = beyond_all ws j (omega (arith, l))
+
+-- bit k modulo 64 of word k / 64 tells of path k
+pub bits_tell : (t : List ℕ → Bool) (ps : List (List ℕ)) (k : ℕ)
+    → bit_at (get_or (words_of t ps) (k / 64) 0) (k % 64) ≡ one_if (nth t ps k)
+bits_tell t ps k = go (cases_lt (k / 64) (width ps))
+  where
+    place : 64 * (k / 64) + k % 64 ≡ k
+    place = omega arith
+
+    go : (k / 64 < width ps) ⊎ (width ps ≤ k / 64) → bit_at (get_or (words_of t ps) (k / 64) 0) (k % 64) ≡ one_if
+        (nth t ps k)
+    go (inl l) =
+        ap (λ w. bit_at w (k % 64)) (word_in t ps (k / 64) l) ∙ bit_of_word t (chunk ps (k / 64)) (k % 64)
+        ∙ ap one_if (nth_take t 64 (drop (64 * (k / 64)) ps) (k % 64) (omega arith) ∙ nth_drop t (64 * (k / 64)) ps
+        (k % 64)
+        ∙ ap (nth t ps) place)
+    go (inr l) =
+        ap (λ w. bit_at w (k % 64)) (beyond_all (words_of t ps) (k / 64)
+        (subst (λ n. n ≤ k / 64) (sym (words_length t ps)) l))
+        ∙ bit_at-zero (k % 64) ∙ ap one_if (sym (nth_none t ps k (omega (arith, l))))

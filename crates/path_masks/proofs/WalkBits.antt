@@ -1,5 +1,34 @@
 -- The tests of paths under way and of paths contained, and what a move does to them.
-use Rattle.std.proofs.Common.{◌≡◌, refl, sym, ap, ap₂, subst, ◌∙◌, ℕ, ◌≤◌, ◌||◌, ◌&&◌, ◌==◌, List, [], ◌∷◌, ◌++◌, length, Bool, true, false, ◌⊎◌, inl, inr, eq-eqb, eqb-true, append_assoc, append-nil, Decides}
+use Rattle.std.proofs.Common.{
+  ◌≡◌,
+  refl,
+  sym,
+  ap,
+  ap₂,
+  subst,
+  ◌∙◌,
+  ℕ,
+  ◌≤◌,
+  ◌||◌,
+  ◌&&◌,
+  ◌==◌,
+  List,
+  [],
+  ◌∷◌,
+  ◌++◌,
+  length,
+  Bool,
+  true,
+  false,
+  ◌⊎◌,
+  inl,
+  inr,
+  eq-eqb,
+  eqb-true,
+  append_assoc,
+  append-nil,
+  Decides,
+}
 use Rattle.std.proofs.lemmas.Bool.{both_ways, or_cases, or_left, or_right, and_parts, and_from, false_from_ne_true}
 use Rattle.prime_paths.specs.Paths.{among, is_simple, Contains}
 use Rattle.prime_paths.proofs.SimplePaths.{last_split, Some_in}

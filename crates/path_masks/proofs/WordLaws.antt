@@ -1,20 +1,52 @@
 -- Words of tests, their bits, and the fold of a row over the words.
-use Rattle.std.proofs.Common.{◌≡◌, refl, sym, ap, ap₂, subst, ◌∙◌, ℕ, zero, suc, ◌+◌, ◌*◌, ◌/◌, ◌%◌, ◌≤◌, ◌<◌, ◌||◌, ◌&&◌, List, [], ◌∷◌, map, get_or, Bool, true, false, ◌⊎◌, inl, inr, arith, min, max, fold, flat_map, bit_and, bit_or, ◌≢◌}
+use Rattle.std.proofs.Common.{
+  ◌≡◌,
+  refl,
+  sym,
+  ap,
+  ap₂,
+  subst,
+  ◌∙◌,
+  ℕ,
+  zero,
+  suc,
+  ◌+◌,
+  ◌*◌,
+  ◌/◌,
+  ◌%◌,
+  ◌≤◌,
+  ◌<◌,
+  ◌||◌,
+  ◌&&◌,
+  List,
+  [],
+  ◌∷◌,
+  map,
+  get_or,
+  Bool,
+  true,
+  false,
+  ◌⊎◌,
+  inl,
+  inr,
+  arith,
+  min,
+  max,
+  fold,
+  flat_map,
+  bit_and,
+  bit_or,
+  ◌≢◌,
+}
 use Rattle.std.specs.Int.{bit_at}
 use Rattle.std.proofs.lemmas.Bool.{cases_eq}
 use Rattle.std.proofs.lemmas.Nat.Bits.{bit_at_lowest, bit_at-suc, bit_at-zero, bit_at_and, bit_at_or, same_from_bits}
 use Rattle.std.proofs.lemmas.List.Sums.{fold-append}
 use Rattle.prime_paths.specs.Paths.{Among}
 use Rattle.prime_paths.specs.Lister.{numbers}
-use Rattle.path_masks.specs.Masks.{one_if, word_of}
+use Rattle.path_masks.specs.Masks.{one_if, word_of, nth}
 
 -- ---- bits of a word
-
--- whether the path of this index is there and passes the test
-abbrev nth : (List ℕ → Bool) → List (List ℕ) → ℕ → Bool
-nth t [] k = false
-nth t (p ∷ ps) zero = t p
-nth t (p ∷ ps) (suc k) = nth t ps k
 
 low_bit : (c : Bool) (n : ℕ) → (one_if c + 2 * n) % 2 ≡ one_if c
 low_bit true n = omega arith

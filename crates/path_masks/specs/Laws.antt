@@ -1,16 +1,36 @@
 -- What the laws of masks say.
-use Rattle.std.specs.Prelude.{◌≡◌, ℕ, false, Bool, List, [], ◌∷◌, ◌++◌, length, map}
+use Rattle.std.specs.Prelude.{◌≡◌, ℕ, ◌/◌, ◌%◌, false, Bool, List, [], ◌∷◌, ◌++◌, length, map}
 use Rattle.std.specs.Bool.{Decides}
+use Rattle.std.specs.Int.{bit_at}
 use Rattle.cov_base.specs.Net.{NetValue, IsNet}
-use Rattle.word_rules.specs.WordRules.{Words, begin_by, pass_by}
+use Rattle.word_rules.specs.WordRules.{Words, word_at, begin_by, pass_by}
 use Rattle.prime_paths.specs.Paths.{Contains, ArePrimes}
 use Rattle.path_masks.specs.UnderWay.{IsUnderWay}
-use Rattle.path_masks.specs.Masks.{contains, is_under_way, width, words_of, bits_of, row_of_start, row_of_move, all_walks_by, AreFit, StandFor}
+use Rattle.path_masks.specs.Masks.{
+  contains,
+  is_under_way,
+  width,
+  one_if,
+  nth,
+  words_of,
+  bits_of,
+  row_of_start,
+  row_of_move,
+  all_walks_by,
+  AreFit,
+  StandFor,
+}
 
 -- the tests of a walk and a path tell whether the walk contains the path, and whether the path is under way
 abbrev pub TestsDecide : Type 0
 TestsDecide = (walk p : List ℕ) → Decides (contains walk p) (Contains walk p)
     × Decides (is_under_way walk p) (IsUnderWay walk p)
+
+-- bit k modulo 64 of word k / 64 tells whether there is a path of index k and it passes the test; so all further bits
+-- are 0
+abbrev pub BitsTell : Type 0
+BitsTell = (t : List ℕ → Bool) (ps : List (List ℕ)) (k : ℕ)
+    → bit_at (word_at (words_of t ps) (k / 64)) (k % 64) ≡ one_if (nth t ps k)
 
 -- after a begin row of the paths the words stand for the walk that is its block alone
 abbrev pub WalkBegins : Type 0

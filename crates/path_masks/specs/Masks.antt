@@ -1,5 +1,31 @@
 -- The sparse rows of a list of paths, and the bits of the paths that walks contain.
-use Rattle.std.specs.Prelude.{◌≡◌, ℕ, ◌+◌, ◌*◌, ◌/◌, ◌≤◌, Bool, true, false, cond, ◌&&◌, ◌||◌, ◌==◌, ◌⊎◌, nat_le, List, [], ◌∷◌, ◌++◌, length, map, take, drop}
+use Rattle.std.specs.Prelude.{
+  ◌≡◌,
+  ℕ,
+  zero,
+  suc,
+  ◌+◌,
+  ◌*◌,
+  ◌/◌,
+  ◌≤◌,
+  Bool,
+  true,
+  false,
+  cond,
+  ◌&&◌,
+  ◌||◌,
+  ◌==◌,
+  ◌⊎◌,
+  nat_le,
+  List,
+  [],
+  ◌∷◌,
+  ◌++◌,
+  length,
+  map,
+  take,
+  drop,
+}
 use Rattle.std.specs.List.{list_any, flat_map}
 use Rattle.cov_base.specs.Falls.{is_real}
 use Rattle.cov_base.specs.declared.net.FlowArc.{FlowArc}
@@ -24,9 +50,16 @@ abbrev pub is_under_way : List ℕ → List ℕ → Bool
 is_under_way [] p = false
 is_under_way (x ∷ w) p = is_front (x ∷ w) p || is_under_way w p
 
+-- 1 where it holds, and 0 where it doesn't
 abbrev pub one_if : Bool → ℕ
 one_if true = 1
 one_if false = 0
+
+-- whether there is a path of this index and it passes the test
+abbrev pub nth : (List ℕ → Bool) → List (List ℕ) → ℕ → Bool
+nth t [] k = false
+nth t (p ∷ ps) zero = t p
+nth t (p ∷ ps) (suc k) = nth t ps k
 
 -- the number whose bits tell of each path whether it passes the test, the lowest of the first
 abbrev pub word_of : (List ℕ → Bool) → List (List ℕ) → ℕ

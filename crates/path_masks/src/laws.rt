@@ -1,6 +1,6 @@
 //! Laws of masks. They speak of definitions alone, so that no change of a body proves them again.
 
-ghost use Rattle.path_masks.specs.Laws.{TestsDecide, WalkBegins, WalkGoesOn, WalksAreSeen};
+ghost use Rattle.path_masks.specs.Laws.{BitsTell, TestsDecide, WalkBegins, WalkGoesOn, WalksAreSeen};
 ghost use Rattle.path_masks.specs.Laws.{PrimesAreFit};
 
 /// Along any walk the bits are exactly those of the paths under way, and the words seen gain
@@ -8,6 +8,7 @@ ghost use Rattle.path_masks.specs.Laws.{PrimesAreFit};
 ///
 /// It does nothing: a caller gets its clauses.
 pub fn masks()
+    ensures bits { BitsTell }
     ensures tests { TestsDecide }
     ensures begins { WalkBegins }
     ensures goes { WalkGoesOn }

@@ -1,7 +1,10 @@
 use Rattle.path_masks.proofs.WalkBits.{contains_decides, under_decides}
-use Rattle.path_masks.proofs.MaskLaws.{begin_stands, pass_stands, all_seen}
+use Rattle.path_masks.proofs.MaskLaws.{bits_tell, begin_stands, pass_stands, all_seen}
 use Rattle.path_masks.proofs.FitLaws.{fit_primes}
 use Rattle.path_masks.proofs.laws.masks.Goals as goal
+
+pub returns-clause-bits : goal.returns-clause-bits
+returns-clause-bits c = bits_tell
 
 pub returns-clause-tests : goal.returns-clause-tests
 returns-clause-tests c = λ walk p. (contains_decides walk p, under_decides walk p)
