@@ -1,0 +1,9 @@
+pub mod Limits
+pub mod Tables
+pub mod CodeRun
+pub mod Checks
+pub mod CodeChecks
+pub mod Sound
+pub mod Fits
+pub mod Counts
+pub mod Laws
