@@ -14,15 +14,12 @@ use crate::named::NamedBlock;
 use crate::numbers::number_blocks;
 use crate::statements::statements;
 use c_tree::{Base, Globals, Ident, NumberRun, Typed, TypedFunction};
-use cov_base::Refusal;
+use cov_base::{ARRAY_LIMIT, Refusal};
 use flow_graph::{Graph, GraphUnit};
 use std::alloc::{AllocError, Global};
 
 /// The cells of a function's frame.
 const CELL_LIMIT: u64 = 4096;
-
-/// The cells of all globals.
-const GLOBAL_LIMIT: u64 = 1_048_576;
 
 /// What lowering refuses.
 #[derive(Clone, Copy, Debug, PartialEq, Eq)]
@@ -113,7 +110,7 @@ pub fn check_globals(globals: &Globals) -> Result<(), Refusal<LowerFault>>
     ensures fits { OnOk result (globals_fault (length globals.now) ≡ None) }
     ensures refused { IfErr result (Refuses (globals_fault (length globals.now))) }
 {
-    if globals.len() > GLOBAL_LIMIT {
+    if globals.len() > ARRAY_LIMIT {
         return Err(Refusal::Refused(LowerFault::GlobalsTooLarge(globals.len())));
     }
     Ok(())
