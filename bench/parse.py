@@ -16,8 +16,8 @@ import tempfile
 
 from scratch import best, gcc_syntax, memory, program_in, stack_limit, statements
 
-CRATES = ("cov_base", "int_ops", "c_tokens", "c_tree", "c_parser")
-USES = "cov_base c_tokens c_tree c_parser sqlite_items"
+CRATES = ("cov_base", "int_ops", "c_tokens", "c_tree", "c_grammar", "c_exprs", "c_parser")
+USES = "cov_base c_tokens c_tree c_grammar c_exprs c_parser sqlite_items"
 RUNS = 9
 MOST = 1_048_576
 
@@ -25,13 +25,13 @@ MAIN_RT = """//! Scans and parses its standard input.
 #![tactic(auto)]
 
 use c_parser::parse;
-use c_tokens::{MOST_BYTES, scan};
-use cov_base::Refusal;
+use c_tokens::scan;
+use cov_base::{Refusal, SOURCE_LIMIT};
 use std::io;
 
 fn main(rt: HostRuntime) -> io::Result<()> {
     let text = io::read_to_string(rt.alloc(), rt.stdin())?;
-    if text.len() > MOST_BYTES {
+    if text.len() > SOURCE_LIMIT {
         return println!(rt; "too long");
     }
     let tokens = match scan(rt.alloc(), text.as_bytes()) {

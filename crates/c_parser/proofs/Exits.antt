@@ -1,5 +1,5 @@
 -- What a reader gives where it ends, by the part or the choice where it does.
-use Rattle.std.proofs.Common.{◌≡◌, ℕ, ◌+◌, ◌<◌, ◌≤◌, max, Bool, List, sym, ap, ◌∙◌, subst, arith}
+use Rattle.std.proofs.Common.{◌≡◌, ℕ, ◌+◌, ◌<◌, ◌≤◌, max, Bool, List, sym, ap, ◌∙◌, arith}
 use Rattle.std.specs.Prelude.{Result as Outcome}
 use Rattle.cov_base.specs.declared.refusal.Refusal.{Refusal}
 use Rattle.cov_base.specs.declared.refusal.Refusal.TheVariants as refusal
@@ -15,28 +15,14 @@ use Rattle.c_grammar.specs.Words.{next_is, type_at}
 use Rattle.c_grammar.specs.Grammar.{Grammar, first_as}
 use Rattle.c_grammar.specs.Derivations.{By, Front}
 use Rattle.c_grammar.specs.Reads.{Refuses, Fits, Reads}
-use Rattle.c_grammar.proofs.Laws.{parted, refused_look, by_look}
+use Rattle.c_grammar.proofs.Laws.{parted, by_look}
 use Rattle.c_grammar.proofs.Depth.{depth, Fair, sized}
 
 -- what is found by the form that the next tokens choose
-pub look_read : {text : List ℕ} {r : Rule} {room n : ℕ} {next : List Token → Grammar (Result r)}
+pub next_read : {text : List ℕ} {r : Rule} {room n : ℕ} {next : List Token → Grammar (Result r)}
     {ts rest : List Token} {x : Result r} → Fits (By text r (next ts) ts) room x n rest
     → Fits (By text r (Grammar.look next) ts) room x n rest
-look_read f = record { front = By.look f.front; fits = f.fits }
-
-pub chosen_read : {X : Type 0} (text : List ℕ) (r : Rule) (form : X → Grammar (Result r)) (choice : List Token → X)
-    (ts : List Token) {o : X} {room n : ℕ} {rest : List Token} {x : Result r} → o ≡ choice ts
-    → Fits (By text r (form o) ts) room x n rest
-    → Fits (By text r (Grammar.look (λ us. form (choice us))) ts) room x n rest
-chosen_read text r form choice ts {room = room} {n = n} {rest = rest} {x = x} e f =
-    look_read (subst (λ o. Fits (By text r (form o) ts) room x n rest) e f)
-
-pub chosen_refused : {X : Type 0} (text : List ℕ) (r : Rule) (form : X → Grammar (Result r))
-    (choice : List Token → X) (ts : List Token) {o : X} {room : ℕ} {e : Refusal ParseFault} → o ≡ choice ts
-    → Refuses (By text r (form o) ts) room e
-    → Refuses (By text r (Grammar.look (λ us. form (choice us))) ts) room e
-chosen_refused text r form choice ts {room = room} {e = e} s f =
-    refused_look (subst (λ o. Refuses (By text r (form o) ts) room e) s f)
+next_read f = record { front = By.look f.front; fits = f.fits }
 
 -- a part that stands deeper than there is room for
 pub no_level : {text : List ℕ} (r q : Rule) {d room place : ℕ} {next : Result q → ℕ → Grammar (Result r)}

@@ -1,9 +1,8 @@
 use Rattle.std.proofs.Common.{refl, sym}
 use Rattle.c_grammar.proofs.Laws.{by_look}
-use Rattle.c_grammar.proofs.Steps.{value_read}
+use Rattle.c_grammar.proofs.Steps.{look_read, value_read}
 use Rattle.c_grammar.specs.Rules.{Rule}
 use Rattle.c_grammar.specs.Words.{next_is}
-use Rattle.c_parser.proofs.Exits.{chosen_read}
 use Rattle.c_tree.specs.TreeView.{init_view}
 use Rattle.c_tokens.specs.declared.token.Punct.TheVariants as mark
 use Rattle.c_grammar.specs.Grammar as grammar
@@ -18,5 +17,4 @@ returns-then-next_is c =
 
 pub returns : goal.returns
 returns c =
-    chosen_read c.args.text.now Rule.initialiser grammar.initialiser_as (next_is mark.Assign) c.args.tokens.now
-    c.if-next_is.ensures (value_read Rule.initialiser refl)
+    look_read Rule.initialiser grammar.initialiser_as (next_is mark.Assign) (sym c.if-next_is.ensures) (value_read Rule.initialiser refl)

@@ -1,9 +1,8 @@
 use Rattle.std.proofs.Common.{refl, sym}
 use Rattle.c_grammar.proofs.Laws.{by_look}
-use Rattle.c_grammar.proofs.Steps.{value_read}
+use Rattle.c_grammar.proofs.Steps.{look_read, value_read}
 use Rattle.c_grammar.specs.Rules.{Rule}
 use Rattle.c_grammar.specs.Words.{next_is}
-use Rattle.c_parser.proofs.Exits.{chosen_read}
 use Rattle.c_tree.specs.TreeView.{size_view}
 use Rattle.c_tokens.specs.declared.token.Punct.TheVariants as mark
 use Rattle.c_grammar.specs.Grammar as grammar
@@ -18,6 +17,6 @@ returns-then-next_is c =
 
 pub returns : goal.returns
 returns c =
-    chosen_read c.args.text.now Rule.size grammar.size_as
-    (next_is mark.OpenBracket) c.args.tokens.now c.if-next_is.ensures
+    look_read Rule.size grammar.size_as
+    (next_is mark.OpenBracket) (sym c.if-next_is.ensures)
     (value_read Rule.size refl)

@@ -1,16 +1,15 @@
 use Rattle.std.proofs.Common.{ap, arith, map, refl, sym}
 use Rattle.c_grammar.proofs.Laws.{by_look, by_rule_read}
-use Rattle.c_grammar.proofs.Steps.{value_read}
+use Rattle.c_grammar.proofs.Steps.{look_read, value_read}
 use Rattle.c_grammar.specs.Forms.{params_at}
 use Rattle.c_grammar.specs.Rules.{Listed, Rule}
-use Rattle.c_parser.proofs.Exits.{chosen_read}
 use Rattle.c_tree.specs.TreeView.{param_view}
 use Rattle.c_grammar.specs.Grammar as grammar
 use Rattle.c_parser.proofs.params.read_parameters.Goals as goal
 
 pub returns-in-Empty : goal.returns-in-Empty
 returns-in-Empty c =
-    chosen_read c.args.text.now Rule.parameters grammar.parameters_as params_at c.args.tokens.now c.in-Empty.ensures
+    look_read Rule.parameters grammar.parameters_as params_at (sym c.in-Empty.ensures)
     (value_read Rule.parameters (ap (map param_view) c.new.ensures))
 
 pub returns-in-OnlyVoid : goal.returns-in-OnlyVoid

@@ -5,12 +5,12 @@ use Rattle.c_grammar.specs.Forms.{all_named}
 use Rattle.c_grammar.specs.Reads.{Reads, Refuses}
 use Rattle.c_grammar.specs.Rules.{Rule}
 use Rattle.c_grammar.specs.Words.{next_is}
-use Rattle.c_parser.proofs.Exits.{chosen_refused}
 use Rattle.c_tree.specs.TreeView.{head_view, outer_view, param_view}
 use Rattle.c_tokens.specs.declared.token.Punct.TheVariants as mark
 use Rattle.c_grammar.specs.Grammar as grammar
 use Rattle.cov_base.specs.declared.refusal.Refusal.TheVariants as refusal
 use Rattle.c_grammar.specs.declared.fault.ParseFault.TheVariants as fault
+use Rattle.c_grammar.proofs.Steps.{look_refused}
 use Rattle.c_parser.proofs.sources.read_body.Goals as goal
 
 pub returns-then-next_is : goal.returns-then-next_is
@@ -31,8 +31,8 @@ returns-then-all_named c =
 
 pub returns : goal.returns
 returns c =
-    chosen_refused c.args.text.now (Rule.body (head_view c.args.head)) (grammar.body_as (head_view c.args.head))
-    (next_is mark.Semicolon) c.args.tokens.now {o = false} c.if-next_is.ensures
+    look_refused (Rule.body (head_view c.args.head)) (grammar.body_as (head_view c.args.head))
+    (next_is mark.Semicolon) {o = false} (sym c.if-next_is.ensures)
     (subst (λ b. Refuses (By c.args.text.now (Rule.body (head_view c.args.head)) (grammar.definition
     (head_view c.args.head) b) c.args.tokens.now) c.args.room (refusal.Refused (fault.Syntax c.place_at.result)))
     (c.if-all_named.ensures ∙ ap (λ ps. all_named (map param_view ps)) c.as_slice.ensures)
