@@ -1,5 +1,24 @@
 -- Expressions that go on: what operators join to what stands before them.
-use Rattle.std.proofs.Common.{◌≡◌, ℕ, zero, suc, ◌+◌, ◌-◌, ◌<◌, ◌≤◌, max, true, false, List, Some, None, refl, ap, subst, arith}
+use Rattle.std.proofs.Common.{
+  ◌≡◌,
+  ℕ,
+  zero,
+  suc,
+  ◌+◌,
+  ◌-◌,
+  ◌<◌,
+  ◌≤◌,
+  max,
+  true,
+  false,
+  List,
+  Some,
+  None,
+  refl,
+  ap,
+  subst,
+  arith,
+}
 use Rattle.std.specs.Prelude.{Result as Outcome}
 use Rattle.int_ops.specs.declared.operators.BinOp.{BinOp}
 use Rattle.cov_base.specs.declared.refusal.Refusal.{Refusal}
@@ -15,7 +34,15 @@ use Rattle.c_grammar.specs.Rules.{Rule, Result}
 use Rattle.c_grammar.specs.Grammar.{Grammar, increments_as, operators_as, commas_as}
 use Rattle.c_grammar.specs.Derivations.{By, Front}
 use Rattle.c_grammar.specs.Reads.{Refuses, Fits, Reads, Leads, Joined}
-use Rattle.c_grammar.proofs.Laws.{by_one, levelled, by_rule_read, refused_look, refused_deep, refused_part, refused_behind}
+use Rattle.c_grammar.proofs.Laws.{
+  by_one,
+  levelled,
+  by_rule_read,
+  refused_look,
+  refused_deep,
+  refused_part,
+  refused_behind,
+}
 use Rattle.c_grammar.proofs.Lists.{leads_on}
 use Rattle.c_grammar.proofs.Moves.{moved1}
 use Rattle.c_grammar.proofs.Spends.{front_spends}
@@ -42,27 +69,31 @@ pub operators_joined : {text : List ℕ} (m : ℕ) {n k room : ℕ} {left x : Ex
     {s : Token × Expr} {ts us : List Token} → operator_at (m + 1) ts ≡ Some o
     → Fits (Side text (Front text (Rule.precedence m)) n ts) room s k us → x ≡ at s.0 (joined o left s.1)
     → Joined (Front text (Rule.operators m left n) ts) (Front text (Rule.operators m x k) us) room k ts us
-operators_joined {text = text} m {n = n} {k = k} {left = left} {x = x} {o = o} {s = s} {ts = ts} {us = us} h f e = record {
-  leads = moved1 (λ x. Leads (Front text (Rule.operators m left n) ts) (Front text (Rule.operators m x k) us)) e
-      (moved1 (λ k. Leads (Front text (Rule.operators m left n) ts) (Front text
-      (Rule.operators m (at s.0 (joined o left s.1)) k) us))
-      (let l : k ≡ 1 + max n f.front.levels = omega (arith, f.front.most) in l)
-      (leads_on (leads_look r (ap (operators_as m left n) h))
-      (leads_on (leads_part r Rule.any f.front.token) (leads_on (leads_part r (Rule.precedence m) f.front.right)
-      (leads_rule r (Rule.operators m (at s.0 (joined o left s.1)) (1 + max n f.front.levels)) (λ x. x) (λ x. x) (λ x. refl)
-      (λ y. refl) (λ y j rest p. omega (arith, operators_deep p)))))));
-  fits = f.fits;
-  shorter = side_shorter (Rule.precedence m) f.front;
-}
+operators_joined {text =
+    text} m {n = n} {k = k} {left = left} {x = x} {o = o} {s = s} {ts = ts} {us = us} h f e = record {
+      leads = moved1 (λ x. Leads (Front text (Rule.operators m left n) ts) (Front text (Rule.operators m x k) us)) e
+          (moved1 (λ k. Leads (Front text (Rule.operators m left n) ts) (Front text
+          (Rule.operators m (at s.0 (joined o left s.1)) k) us))
+          (let l : k ≡ 1 + max n f.front.levels = omega (arith, f.front.most) in l)
+          (leads_on (leads_look r (ap (operators_as m left n) h))
+          (leads_on (leads_part r Rule.any f.front.token) (leads_on (leads_part r (Rule.precedence m) f.front.right)
+          (leads_rule r (Rule.operators m (at s.0 (joined o left s.1)) (1 + max n f.front.levels)) (λ x. x) (λ x. x)
+          (λ x. refl)
+          (λ y. refl) (λ y j rest p. omega (arith, operators_deep p)))))));
+      fits = f.fits;
+      shorter = side_shorter (Rule.precedence m) f.front;
+    }
   where
     r : Rule
     r = Rule.operators m left n
 
-pub operators_ended : {text : List ℕ} (m : ℕ) {n room : ℕ} {left : Expr} {ts : List Token} → operator_at (m + 1) ts ≡ None
+pub operators_ended : {text : List ℕ} (m : ℕ) {n room : ℕ} {left : Expr} {ts : List Token}
+    → operator_at (m + 1) ts ≡ None
     → n ≤ room → Fits (Front text (Rule.operators m left n) ts) room left n ts
 operators_ended {text = text} m {n = n} {left = left} {ts = ts} h l = record {
   front = levelled
-      (By.deep (By.look (moved1 (λ c. By text (Rule.operators m left n) (operators_as m left n c) ts left 0 ts) h By.gives)))
+      (By.deep (By.look (moved1 (λ c. By text (Rule.operators m left n)
+      (operators_as m left n c) ts left 0 ts) h By.gives)))
       (omega arith);
   fits = l;
 }
@@ -84,17 +115,18 @@ increments_refused text n room left ts {e = e} h f =
 pub increments_joined : {text : List ℕ} {n k room : ℕ} {left x : Expr} {o : BinOp} {t : Token} {ts us : List Token}
     → increment_at ts ≡ Some o → Fits (Deeper text n ts) room t k us → x ≡ at t (Kind.After o left)
     → Joined (Front text (Rule.increments left n) ts) (Front text (Rule.increments x k) us) room k ts us
-increments_joined {text = text} {n = n} {k = k} {left = left} {x = x} {o = o} {t = t} {ts = ts} {us = us} h f e = record {
-  leads = moved1 (λ x. Leads (Front text (Rule.increments left n) ts) (Front text (Rule.increments x k) us)) e
-      (moved1 (λ k. Leads (Front text (Rule.increments left n) ts) (Front text
-      (Rule.increments (at t (Kind.After o left)) k) us)) f.front.1
-      (leads_on (leads_look r (ap (increments_as left n) h))
-      (leads_on (leads_part r Rule.any f.front.0)
-      (leads_rule r (Rule.increments (at t (Kind.After o left)) (n + 1)) (λ x. x) (λ x. x) (λ x. refl)
-      (λ y. refl) (λ y j rest p. omega (arith, increments_deep p))))));
-  fits = f.fits;
-  shorter = front_spends text Rule.any refl f.front.0;
-}
+increments_joined {text =
+    text} {n = n} {k = k} {left = left} {x = x} {o = o} {t = t} {ts = ts} {us = us} h f e = record {
+      leads = moved1 (λ x. Leads (Front text (Rule.increments left n) ts) (Front text (Rule.increments x k) us)) e
+          (moved1 (λ k. Leads (Front text (Rule.increments left n) ts) (Front text
+          (Rule.increments (at t (Kind.After o left)) k) us)) f.front.1
+          (leads_on (leads_look r (ap (increments_as left n) h))
+          (leads_on (leads_part r Rule.any f.front.0)
+          (leads_rule r (Rule.increments (at t (Kind.After o left)) (n + 1)) (λ x. x) (λ x. x) (λ x. refl)
+          (λ y. refl) (λ y j rest p. omega (arith, increments_deep p))))));
+      fits = f.fits;
+      shorter = front_spends text Rule.any refl f.front.0;
+    }
   where
     r : Rule
     r = Rule.increments left n
@@ -103,7 +135,8 @@ pub increments_ended : {text : List ℕ} {n room : ℕ} {left : Expr} {ts : List
     → n ≤ room → Fits (Front text (Rule.increments left n) ts) room left n ts
 increments_ended {text = text} {n = n} {left = left} {ts = ts} h l = record {
   front = levelled
-      (By.deep (By.look (moved1 (λ c. By text (Rule.increments left n) (increments_as left n c) ts left 0 ts) h By.gives)))
+      (By.deep (By.look (moved1 (λ c. By text (Rule.increments left n)
+      (increments_as left n c) ts left 0 ts) h By.gives)))
       (omega arith);
   fits = l;
 }
@@ -128,11 +161,13 @@ pub commas_joined : {text : List ℕ} {n k room : ℕ} {left x : Expr} {s : Toke
     → Joined (Front text (Rule.commas left n) ts) (Front text (Rule.commas x k) us) room k ts us
 commas_joined {text = text} {n = n} {k = k} {left = left} {x = x} {s = s} {ts = ts} {us = us} h f e = record {
   leads = moved1 (λ x. Leads (Front text (Rule.commas left n) ts) (Front text (Rule.commas x k) us)) e
-      (moved1 (λ k. Leads (Front text (Rule.commas left n) ts) (Front text (Rule.commas (at s.0 (Kind.Comma left s.1)) k) us))
+      (moved1 (λ k. Leads (Front text (Rule.commas left n) ts)
+      (Front text (Rule.commas (at s.0 (Kind.Comma left s.1)) k) us))
       (let l : k ≡ 1 + max n f.front.levels = omega (arith, f.front.most) in l)
       (leads_on (leads_look r (ap (commas_as left n) h))
       (leads_on (leads_part r Rule.any f.front.token) (leads_on (leads_part r Rule.assignment f.front.right)
-      (leads_rule r (Rule.commas (at s.0 (Kind.Comma left s.1)) (1 + max n f.front.levels)) (λ x. x) (λ x. x) (λ x. refl)
+      (leads_rule r (Rule.commas (at s.0 (Kind.Comma left s.1)) (1 + max n f.front.levels)) (λ x. x) (λ x. x)
+      (λ x. refl)
       (λ y. refl) (λ y j rest p. omega (arith, commas_deep p)))))));
   fits = f.fits;
   shorter = side_shorter Rule.assignment f.front;
@@ -190,7 +225,8 @@ precedence_refused text m d {room = room} {ts = ts} {e = e} h f =
         (let h : suc d + m ≡ suc (d + m) = omega arith in h)
         (refused_part (Rule.precedence (suc (d + m))) (Rule.precedence (d + m)) (go d) (omega arith))
 
-pub precedence_first : {text : List ℕ} {n room : ℕ} {x : Expr} {ts rest : List Token} → Fits (Front text Rule.cast ts) room x n rest
+pub precedence_first : {text : List ℕ} {n room : ℕ} {x : Expr} {ts rest : List Token}
+    → Fits (Front text Rule.cast ts) room x n rest
     → Fits (Front text (Rule.precedence 0) ts) room x n rest
 precedence_first f = record { front = levelled (By.part f.front By.gives) (omega arith); fits = f.fits }
 
@@ -199,7 +235,8 @@ pub cast_refused : (text : List ℕ) (p : ℕ) {room : ℕ} {ts : List Token} {e
 cast_refused text p f =
     precedence_refused text 0 p (omega arith) (refused_part (Rule.precedence 0) Rule.cast f (omega arith))
 
-pub tighter_refused : (text : List ℕ) (m p : ℕ) {n room : ℕ} {y : Expr} {ts us : List Token} {e : Refusal ParseFault} → m < p
+pub tighter_refused : (text : List ℕ) (m p : ℕ) {n room : ℕ} {y : Expr} {ts us : List Token} {e : Refusal ParseFault}
+    → m < p
     → Fits (Front text (Rule.precedence m) ts) room y n us → Refuses (Front text (Rule.operators m y n) us) room e
     → Refuses (Front text (Rule.precedence p) ts) room e
 tighter_refused text m p {n = n} {y = y} l f h =

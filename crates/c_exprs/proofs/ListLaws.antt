@@ -1,5 +1,25 @@
 -- Lists that a function value reads member by member.
-use Rattle.std.proofs.Common.{◌≡◌, ℕ, ◌≤◌, true, false, List, [], ◌∷◌, ◌++◌, map, nat_cmp, max, Ok, Err, refl, sym, subst, ◌∙◌, arith}
+use Rattle.std.proofs.Common.{
+  ◌≡◌,
+  ℕ,
+  ◌≤◌,
+  true,
+  false,
+  List,
+  [],
+  ◌∷◌,
+  ◌++◌,
+  map,
+  nat_cmp,
+  max,
+  Ok,
+  Err,
+  refl,
+  sym,
+  subst,
+  ◌∙◌,
+  arith,
+}
 use Rattle.std.specs.Prelude.{Result as Outcome}
 use Rattle.std.specs.Ordering.{ord_max}
 use denote.Ref.{Bor}
@@ -15,7 +35,21 @@ use Rattle.c_grammar.specs.Lists.{Answers, following_of, follows, member_at, Rea
 use Rattle.c_grammar.specs.Reads.{Refuses, Fits, Reads}
 use Rattle.c_grammar.specs.Grammar.{has_commas}
 use Rattle.c_grammar.proofs.Moves.{moved1}
-use Rattle.c_grammar.proofs.Lists.{Begun, begun_none, begun_further, begun_refused, ends, past, member_read, member_further, member_last, member_refused, follows_as, member_as, greater}
+use Rattle.c_grammar.proofs.Lists.{
+  Begun,
+  begun_none,
+  begun_further,
+  begun_refused,
+  ends,
+  past,
+  member_read,
+  member_further,
+  member_last,
+  member_refused,
+  follows_as,
+  member_as,
+  greater,
+}
 
 -- a list's members as the definitions see them
 abbrev pub seen : {H : Type 0} (l : Listed) → (H → Result (member l)) → List H → List (Member l)
@@ -27,24 +61,30 @@ Reached {H = H} text room post f tokens rest xs n =
     (l : Listed) (view : H → Result (member l)) → following_of l ≡ f → ReadsMembers l view room post
     → Begun (Front text (Rule.list l) tokens) (Front text (Rule.list l) rest) (seen l view xs) n × (n ≤ room)
 
-pub reached_none : {H : Type 0} (text : Bor (List ℕ)) (room : ℕ) (post : Answers H) (f : Following) (tokens : List Token) → Reached text.now room post f tokens tokens [] 0
+pub reached_none : {H : Type 0} (text : Bor (List ℕ)) (room : ℕ) (post : Answers H) (f : Following)
+    (tokens : List Token) → Reached text.now room post f tokens tokens [] 0
 reached_none text room post f tokens l view e h = (begun_none, omega arith)
 
-pub reached_next : {H : Type 0} (text : Bor (List ℕ)) (room : ℕ) (post : Answers H) (f : Following) (tokens : List Token) (xs : List H) (ts : Bor (List Token))
+pub reached_next : {H : Type 0} (text : Bor (List ℕ)) (room : ℕ) (post : Answers H) (f : Following)
+    (tokens : List Token) (xs : List H) (ts : Bor (List Token))
     (found : Found H) {new : List H} {next : List Token} {n k : ℕ} → Reached text.now room post f tokens ts.now xs n
     → post text ts (Ok found) → new ≡ xs ++ found.tree ∷ [] → k ≡ ord_max nat_cmp n found.levels
-    → follows f found.rest.now ≡ true → next ≡ member_at f found.rest.now → Reached text.now room post f tokens next new k
+    → follows f found.rest.now ≡ true → next ≡ member_at f found.rest.now
+    → Reached text.now room post f tokens next new k
 reached_next text room post f tokens xs ts found {n = n} r p e k g s l view q h =
     let b = r l view q h in
     let m = h text ts (Ok found) p in (
       member_further text.now l
-          (member_read text.now l (λ x. as_member l (view x)) (Front text.now (Rule.list l) tokens) xs found.tree e b.0 m.front
+          (member_read text.now l (λ x. as_member l (view x))
+          (Front text.now (Rule.list l) tokens) xs found.tree e b.0 m.front
           refl k) (follows_as l found.rest.now q ∙ g) (s ∙ member_as l found.rest.now q),
       omega (arith, b.1, m.fits, k, greater n found.levels),
     )
 
-pub reached_end : {H : Type 0} (text : Bor (List ℕ)) (room : ℕ) (post : Answers H) (f : Following) (tokens : List Token) (xs : List H) (ts : Bor (List Token))
-    (found : Found H) {new : List H} {n k : ℕ} → Reached text.now room post f tokens ts.now xs n → post text ts (Ok found)
+pub reached_end : {H : Type 0} (text : Bor (List ℕ)) (room : ℕ) (post : Answers H) (f : Following) (tokens : List Token)
+    (xs : List H) (ts : Bor (List Token))
+    (found : Found H) {new : List H} {n k : ℕ} → Reached text.now room post f tokens ts.now xs n → post text ts
+    (Ok found)
     → new ≡ xs ++ found.tree ∷ [] → k ≡ ord_max nat_cmp n found.levels → follows f found.rest.now ≡ false
     → (l : Listed) (view : H → Result (member l)) → following_of l ≡ f
     → ReadsMembers l view room post → Fits (Front text.now (Rule.list l) tokens) room (seen l view new) k found.rest.now
@@ -53,13 +93,16 @@ reached_end text room post f tokens xs ts found {n = n} r p e k g l view q h =
     let m = h text ts (Ok found) p in
     record {
       front = member_last text.now l
-          (member_read text.now l (λ x. as_member l (view x)) (Front text.now (Rule.list l) tokens) xs found.tree e b.0 m.front
+          (member_read text.now l (λ x. as_member l (view x))
+          (Front text.now (Rule.list l) tokens) xs found.tree e b.0 m.front
           refl k) (follows_as l found.rest.now q ∙ g);
       fits = omega (arith, b.1, m.fits, k, greater n found.levels);
     }
 
-pub reached_refused : {H : Type 0} (text : Bor (List ℕ)) (room : ℕ) (post : Answers H) (f : Following) (tokens : List Token) (xs : List H)
-    (ts : Bor (List Token)) (e : Refusal ParseFault) {n : ℕ} → Reached text.now room post f tokens ts.now xs n → post text ts (Err e)
+pub reached_refused : {H : Type 0} (text : Bor (List ℕ)) (room : ℕ) (post : Answers H) (f : Following)
+    (tokens : List Token) (xs : List H)
+    (ts : Bor (List Token)) (e : Refusal ParseFault) {n : ℕ} → Reached text.now room post f tokens ts.now xs n
+    → post text ts (Err e)
     → (l : Listed) (view : H → Result (member l)) → following_of l ≡ f
     → ReadsMembers l view room post → Refuses (Front text.now (Rule.list l) tokens) room e
 reached_refused text room post f tokens xs ts e r p l view q h =
@@ -77,7 +120,8 @@ more_ended text l view ts room e q g = record {
 -- what follows is one more list
 pub more_read : {H : Type 0} (text : List ℕ) (l : Listed) (view : H → Result (member l)) (ts us : List Token) (room : ℕ)
     {f : Following} → following_of l ≡ f → follows f ts ≡ true → us ≡ member_at f ts
-    → (result : Outcome (Found (List H)) (Refusal ParseFault)) → Reads (seen l view) (Front text (Rule.list l) us) room result
+    → (result : Outcome (Found (List H)) (Refusal ParseFault)) → Reads (seen l view)
+    (Front text (Rule.list l) us) room result
     → Reads (seen l view) (Front text (Rule.more l) ts) room result
 more_read {H = H} text l view ts us room q g s result h =
     go result (moved1 (λ us. Reads (seen l view) (Front text (Rule.list l) us) room result)

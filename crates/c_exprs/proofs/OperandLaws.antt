@@ -34,7 +34,8 @@ pub some_arguments : (text : List ℕ) (ts : List Token) (room : ℕ) → next_i
     → Reads (map expr_view) (Front text Rule.arguments ts) room result
 some_arguments text ts room e result f =
     by_look text Rule.arguments (map expr_view) arguments_as (next_is mark.CloseParen) ts room e result
-    (by_rule_read text Rule.arguments (Rule.list Listed.arguments) (λ es. es) (map expr_view) (map expr_view) ts room room
+    (by_rule_read text Rule.arguments (Rule.list Listed.arguments) (λ es. es) (map expr_view)
+    (map expr_view) ts room room
     (λ x. refl) (omega arith) (omega arith) result f)
 
 pub no_operand : (text : List ℕ) (ts : List Token) (room place : ℕ) → operand_at ts ≡ first.Absent

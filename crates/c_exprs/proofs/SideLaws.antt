@@ -35,7 +35,8 @@ use Rattle.c_grammar.proofs.Steps.{refused_below, deep_most}
 use Rattle.c_exprs.specs.Sides.{Deeper, Side, Sides}
 
 -- what a `?` gives back where more is joined
-pub passed_on : {H A : Type 0} (view : H → A) (P : A → ℕ → List Token → A → ℕ → List Token → Type 0) {room n : ℕ} {x : A}
+pub passed_on : {H A : Type 0} (view : H → A) (P : A → ℕ → List Token → A → ℕ → List Token
+    → Type 0) {room n : ℕ} {x : A}
     {ts : List Token} {e : Refusal ParseFault} (r : Outcome (Found H) (Refusal ParseFault)) → IsErrAnd r (λ y. y ≡ e)
     → Refuses (P x n ts) room e → Joins view P room x n ts r
 passed_on view P (Ok found) h f = absurd h
@@ -130,7 +131,8 @@ first_refused {text = text} f h =
       omega (arith, p.most),
     )) (omega arith) h
 
-pub last_refused : {text : List ℕ} {n m room : ℕ} {t : Token} {a : Expr} {ts us vs : List Token} {e : Refusal ParseFault}
+pub last_refused : {text : List ℕ} {n m room : ℕ} {t : Token} {a : Expr} {ts us vs : List Token} {e : Refusal
+    ParseFault}
     → Front text Rule.any ts t 0 us → Front text (Rule.closed mark.Colon) us a m vs
     → Refuses (Front text Rule.conditional vs) (room - 1) e → Refuses (Sides text n ts) room e
 last_refused {text = text} f g h =

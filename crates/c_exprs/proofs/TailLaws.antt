@@ -24,7 +24,8 @@ use Rattle.c_grammar.proofs.Steps.{deep_most, deep_reads}
 use Rattle.c_exprs.specs.Sides.{Side}
 use Rattle.c_exprs.proofs.SideLaws.{side_refused}
 
-choice_most : {text : List ℕ} {x y : Expr} {n j : ℕ} {ts rest : List Token} → By text Rule.conditional (choice_as x n true) ts
+choice_most : {text : List ℕ} {x y : Expr} {n j : ℕ} {ts rest : List Token}
+    → By text Rule.conditional (choice_as x n true) ts
     y j rest → n ≤ j
 choice_most p =
     let d = parted p in
@@ -41,7 +42,8 @@ choice_read text x n room ts e result h =
     (λ y j rest p. choice_most (subst (λ b. By text Rule.conditional (choice_as x n b) ts y j rest) e (chosen p)))
     result (by_look text Rule.conditional expr_view (choice_as x n) (next_is mark.Question) ts room e result h)
 
-pub choice_ended : {text : List ℕ} {x : Expr} {n room : ℕ} {ts : List Token} → next_is mark.Question ts ≡ false → n ≤ room
+pub choice_ended : {text : List ℕ} {x : Expr} {n room : ℕ} {ts : List Token} → next_is mark.Question ts ≡ false
+    → n ≤ room
     → Fits (By text Rule.conditional (choice x n) ts) room x n ts
 choice_ended {text = text} {x = x} {n = n} {ts = ts} e l = record {
   front = levelled
@@ -49,20 +51,23 @@ choice_ended {text = text} {x = x} {n = n} {ts = ts} e l = record {
   fits = l;
 }
 
-pub not_unary : (text : List ℕ) (x : Expr) (n room : ℕ) (ts : List Token) (o : Option BinOp) (place : ℕ) → is_unary x ≡ false
+pub not_unary : (text : List ℕ) (x : Expr) (n room : ℕ) (ts : List Token) (o : Option BinOp) (place : ℕ)
+    → is_unary x ≡ false
     → Refuses (By text Rule.assignment (assigned_as x n (Some o)) ts) room (refusal.Refused (fault.Syntax place))
 not_unary text x n room ts o place e =
     moved1 (λ b. Refuses (By text Rule.assignment (target x n o b) ts) room (refusal.Refused (fault.Syntax place))) e
     (refused_none {text = text} {r = Rule.assignment} {room = room} {place = place} {ts = ts})
 
-pub target_refused : (text : List ℕ) (x : Expr) (n room : ℕ) (ts : List Token) (o : Option BinOp) {e : Refusal ParseFault}
+pub target_refused : (text : List ℕ) (x : Expr) (n room : ℕ) (ts : List Token)
+    (o : Option BinOp) {e : Refusal ParseFault}
     → is_unary x ≡ true → Refuses (Side text (Front text Rule.assignment) n ts) room e
     → Refuses (By text Rule.assignment (assigned_as x n (Some o)) ts) room e
 target_refused text x n room ts o {e = e} h f =
     moved1 (λ b. Refuses (By text Rule.assignment (target x n o b) ts) room e) h
     (side_refused Rule.assignment Rule.assignment n (λ t y k x j us rest p. deep_most p) f)
 
-pub target_found : {text : List ℕ} {x y : Expr} {n k room : ℕ} {o : Option BinOp} {s : Token × Expr} {ts rest : List Token}
+pub target_found : {text : List ℕ} {x y : Expr} {n k room : ℕ} {o : Option BinOp} {s : Token × Expr} {ts rest : List
+    Token}
     → is_unary x ≡ true → Fits (Side text (Front text Rule.assignment) n ts) room s k rest
     → y ≡ at s.0 (Kind.Assign o x s.1) → Fits (By text Rule.assignment (assigned_as x n (Some o)) ts) room y k rest
 target_found {text = text} {x = x} {y = y} {n = n} {k = k} {o = o} {ts = ts} {rest = rest} h f e = record {
@@ -80,7 +85,8 @@ target_most x n o true p =
     omega (arith, d.most, a.most, deep_most a.then)
 target_most x n o false p = elim p [ ]
 
-pub assigned_read : (text : List ℕ) (x : Expr) (n room : ℕ) (ts : List Token) (o : Option BinOp) → assignment_at ts ≡ Some o
+pub assigned_read : (text : List ℕ) (x : Expr) (n room : ℕ) (ts : List Token) (o : Option BinOp)
+    → assignment_at ts ≡ Some o
     → (result : Outcome (Found ExprHeld) (Refusal ParseFault))
     → Reads expr_view (By text Rule.assignment (assigned_as x n (Some o)) ts) room result
     → Reads expr_view (By text Rule.assignment (assigned x n) ts) room result
@@ -94,6 +100,7 @@ pub assigned_ended : {text : List ℕ} {x : Expr} {n room : ℕ} {ts : List Toke
     → Fits (By text Rule.assignment (assigned x n) ts) room x n ts
 assigned_ended {text = text} {x = x} {n = n} {ts = ts} e l = record {
   front = levelled
-      (By.deep (By.look (moved1 (λ c. By text Rule.assignment (assigned_as x n c) ts x 0 ts) e By.gives))) (omega arith);
+      (By.deep (By.look (moved1 (λ c. By text Rule.assignment (assigned_as x n c) ts x 0 ts) e By.gives)))
+      (omega arith);
   fits = l;
 }

@@ -71,7 +71,8 @@ pub fn read_ended<'a>(
     mark: Punct,
     room: u32,
 ) -> Read<'a, Option<Boxed<Expr>>>
-    ensures { Reads (option_map expr_view) (Front text.now (Rule.ended mark) tokens.now) room result }
+    ensures { Reads (option_map expr_view) (Front text.now (Rule.ended mark) tokens.now) room
+        result }
 {
     if next_is(tokens, mark) {
         let close = expect(text, tokens, mark)?;

@@ -83,7 +83,8 @@ pub fn signed(
     operator: UnaryOperator,
     operand: Expr,
 ) -> Result<Expr, AllocError>
-    ensures { IfOk result (λ e. expr_view e ≡ spec.at token (spec.signed operator (expr_view operand))) }
+    ensures { IfOk result (λ e. expr_view e
+        ≡ spec.at token (spec.signed operator (expr_view operand))) }
 {
     let kind = match operator {
         UnaryOperator::Plus => make::plus(alloc, operand)?,

@@ -37,7 +37,8 @@ impl<'a, F: Copy + Fn(Global, &'a [u8], &'a [Token], Nest, u32) -> Read<'a, Expr
     /// An expression that stands inside another.
     pub fn inner(&self, tokens: &'a [Token], nest: Nest) -> Read<'a, Expr>
         requires nests { Nests self.now.room (F.pre self.now.inner) (F.post self.now.inner) }
-        ensures { Reads expr_view (Inner self.now.text.now nest tokens.now) (self.now.room - 1) result }
+        ensures { Reads expr_view (Inner self.now.text.now nest tokens.now) (self.now.room - 1)
+            result }
     {
         (self.inner)(self.alloc, self.text, tokens, nest, self.room - 1)
     }

@@ -1,5 +1,25 @@
 -- Lists and operators that are read from the front: what was read, and what goes on behind it.
-use Rattle.std.proofs.Common.{◌≡◌, ℕ, ◌≤◌, max, Bool, true, false, List, [], ◌∷◌, ◌++◌, map, nat_cmp, refl, sym, ap, ◌∙◌, subst, arith}
+use Rattle.std.proofs.Common.{
+  ◌≡◌,
+  ℕ,
+  ◌≤◌,
+  max,
+  Bool,
+  true,
+  false,
+  List,
+  [],
+  ◌∷◌,
+  ◌++◌,
+  map,
+  nat_cmp,
+  refl,
+  sym,
+  ap,
+  ◌∙◌,
+  subst,
+  arith,
+}
 use Rattle.std.specs.Ordering.{ord_max}
 use Rattle.std.proofs.lemmas.List.{append_assoc, append-nil, map-append}
 use Rattle.cov_base.specs.declared.refusal.Refusal.{Refusal}
@@ -214,7 +234,8 @@ follows_as l ts e = own l ts ∙ ap (λ f. follows f ts) e
     own Listed.outers ts = refl
 
 -- where its next member stands
-pub member_as : (l : Listed) {f : Following} (ts : List Token) → following_of l ≡ f → member_at f ts ≡ past (has_commas l)
+pub member_as : (l : Listed) {f : Following} (ts : List Token) → following_of l ≡ f
+    → member_at f ts ≡ past (has_commas l)
     ts
 member_as l ts e = ap (λ f. member_at f ts) (sym e) ∙ own l ts
   where

@@ -47,7 +47,19 @@ use Rattle.c_grammar.specs.Grammar as grammar
 use Rattle.std.proofs.lemmas.Option.{none-some}
 use Rattle.c_grammar.specs.declared.fault.ParseFault.{ParseFault}
 use Rattle.c_grammar.specs.declared.found.Found.{Found}
-use Rattle.c_grammar.specs.Words.{key_of, is_type_word, words_with, base_at, behind_words, type_lists, named_by, type_words, word_number, next_is, type_at}
+use Rattle.c_grammar.specs.Words.{
+  key_of,
+  is_type_word,
+  words_with,
+  base_at,
+  behind_words,
+  type_lists,
+  named_by,
+  type_words,
+  word_number,
+  next_is,
+  type_at,
+}
 use Rattle.c_grammar.specs.Rules.{Listed, Rule, Result}
 use Rattle.c_grammar.specs.Grammar.{Grammar, form_of, member}
 use Rattle.c_grammar.specs.Derivations.{By, Front}
@@ -212,7 +224,8 @@ unnamed {base = base} h = none-some base h
 
 words_spent : {base : Base} (ts : List Token) → base_at ts ≡ Some base → length (behind_words ts) < length ts
 words_spent [] h = absurd (unnamed h)
-words_spent {base = base} (t ∷ ts) h = go (key_of (Some t.kind)) (type_words ts) (behind_words ts) t ts h (words_shorter ts)
+words_spent {base =
+    base} (t ∷ ts) h = go (key_of (Some t.kind)) (type_words ts) (behind_words ts) t ts h (words_shorter ts)
   where
     pick : {base : Base} (b : Bool) (words : List ℕ) (us : List Token) (t : Token) (ts : List Token)
         → named_by type_lists (cond b [] words) ≡ Some base → length us ≤ length ts

@@ -11,7 +11,19 @@ use Rattle.c_grammar.specs.Derivations.{By, Front}
 use Rattle.c_tokens.specs.declared.token.Punct.{Punct}
 use Rattle.c_tokens.specs.declared.token.TokenKind.TheVariants as kind
 use Rattle.c_grammar.specs.Reads.{Refuses, Lacks, Fits, Reads, Closes, Leads}
-use Rattle.c_grammar.proofs.Laws.{levelled, valued, chosen, deepened, behind, by_one, one_by, refused_behind, refused_lacking, refused_deep, refused_look}
+use Rattle.c_grammar.proofs.Laws.{
+  levelled,
+  valued,
+  chosen,
+  deepened,
+  behind,
+  by_one,
+  one_by,
+  refused_behind,
+  refused_lacking,
+  refused_deep,
+  refused_look,
+}
 use Rattle.c_grammar.proofs.Moves.{moved1}
 
 -- a part of at most so many levels, and then what fits behind it
@@ -40,13 +52,15 @@ deep_read r l f = record { front = By.deep f.front; fits = omega (arith, l, f.fi
 
 -- what the next tokens choose
 pub look_read : {text : List ℕ} (r : Rule) {X : Type 0} (form : X → Grammar (Result r)) (choice : List Token → X)
-    {ts rest : List Token} {room n : ℕ} {x : Result r} {o : X} → choice ts ≡ o → Fits (By text r (form o) ts) room x n rest
+    {ts rest : List Token} {room n : ℕ} {x : Result r} {o : X} → choice ts ≡ o → Fits
+    (By text r (form o) ts) room x n rest
     → Fits (By text r (Grammar.look (λ us. form (choice us))) ts) room x n rest
 look_read {text = text} r form choice {ts = ts} {rest = rest} {n = n} {x = x} e f =
     record { front = By.look (moved1 (λ o. By text r (form o) ts x n rest) e f.front); fits = f.fits }
 
 pub look_refused : {text : List ℕ} (r : Rule) {X : Type 0} (form : X → Grammar (Result r)) (choice : List Token → X)
-    {ts : List Token} {room : ℕ} {e : Refusal ParseFault} {o : X} → choice ts ≡ o → Refuses (By text r (form o) ts) room e
+    {ts : List Token} {room : ℕ} {e : Refusal ParseFault} {o : X} → choice ts ≡ o → Refuses
+    (By text r (form o) ts) room e
     → Refuses (By text r (Grammar.look (λ us. form (choice us))) ts) room e
 look_refused {text = text} r form choice {ts = ts} {room = room} {e = k} e f =
     refused_look {r = r} (moved1 (λ o. Refuses (By text r (form o) ts) room k) e f)
@@ -65,7 +79,8 @@ passed view {P = P} {room = room} (Err e) h f = subst (Refuses P room) (sym h) f
 -- where each front has one of another kind in it, so many levels below, the refusal of that one is its own
 pub refused_below : {A B : Type 0} {P : A → ℕ → List Token → Type 0} {Q : B → ℕ → List Token → Type 0}
     {small room : ℕ} {e : Refusal ParseFault} (d : ℕ)
-    → ((x : A) (n : ℕ) (rest : List Token) → P x n rest → (y : B) × (m : ℕ) × (us : List Token) × Q y m us × (m + d ≤ n))
+    → ((x : A) (n : ℕ) (rest : List Token) → P x n rest → (y : B) × (m : ℕ) × (us : List Token) × Q y m us ×
+    (m + d ≤ n))
     → room ≤ small + d → Refuses Q small e → Refuses P room e
 refused_below d f l (Refuses.no_tree h) = Refuses.no_tree (λ x n rest p. let g = f x n rest p in h g.0 g.1 g.2 g.3)
 refused_below d f l (Refuses.too_deep h) =
@@ -94,11 +109,13 @@ closed_read text r q f view inner m ts room found e p (Err k) c =
 
 -- A chain of operators: what goes on behind an expression of so many levels.
 module _ {text : List ℕ} (r : Rule) where
-  pub leads_look : {n : ℕ} {next : List Token → Grammar (Result r)} {ts : List Token} {g : Grammar (Result r)} → next ts ≡ g
+  pub leads_look : {n : ℕ} {next : List Token → Grammar (Result r)} {ts : List Token} {g : Grammar (Result r)}
+      → next ts ≡ g
       → Leads (By text r (Grammar.deep n (Grammar.look next)) ts) (By text r (Grammar.deep n g) ts)
   leads_look {n = n} {ts = ts} e = record {
     forth = λ x j rest p.
-        let d = deepened p in levelled (By.deep (By.look (moved1 (λ g. By text r g ts x d.others rest) e d.then))) d.most;
+        let d = deepened p in levelled (By.deep (By.look
+        (moved1 (λ g. By text r g ts x d.others rest) e d.then))) d.most;
     back = λ x j rest p.
         let d = deepened p in
         levelled (By.deep (moved1 (λ g. By text r g ts x d.others rest) (sym e) (chosen d.then))) d.most;
@@ -106,7 +123,8 @@ module _ {text : List ℕ} (r : Rule) where
 
   pub leads_part : (q : Rule) {d n k : ℕ} {next : Result q → ℕ → Grammar (Result r)} {ts us : List Token} {y : Result q}
       → Front text q ts y k us
-      → Leads (By text r (Grammar.deep n (Grammar.part d q next)) ts) (By text r (Grammar.deep (max n (k + d)) (next y k)) us)
+      → Leads (By text r (Grammar.deep n (Grammar.part d q next)) ts)
+      (By text r (Grammar.deep (max n (k + d)) (next y k)) us)
   leads_part q f = record {
     forth = λ x j rest p. let e = deepened p in levelled (By.deep (By.part f e.then)) (omega (arith, e.most));
     back = λ x j rest p.
@@ -132,13 +150,15 @@ module _ {text : List ℕ} (r : Rule) where
   }
 
 -- a part, and then what a reader reads behind it, of as many levels at least
-pub then_read : {H : Type 0} (text : List ℕ) (r q : Rule) (view : H → Result r) (next : Result q → ℕ → Grammar (Result r))
+pub then_read : {H : Type 0} (text : List ℕ) (r q : Rule) (view : H → Result r) (next : Result q → ℕ
+    → Grammar (Result r))
     (ts us : List Token) (y : Result q) (n room : ℕ) → Fits (Front text q ts) room y n us
     → ((x : Result r) (j : ℕ) (rest : List Token) → By text r (next y n) us x j rest → n ≤ j)
     → (result : Outcome (Found H) (Refusal ParseFault)) → Reads view (By text r (next y n) us) room result
     → Reads view (By text r (Grammar.part 0 q next) ts) room result
 then_read text r q view next ts us y n room p l (Ok found) f =
-    levels_read (omega (arith, l (view found.tree) found.levels found.rest.now f.front)) (part_read r q p (omega arith) f)
+    levels_read (omega (arith, l (view found.tree) found.levels found.rest.now f.front))
+    (part_read r q p (omega arith) f)
 then_read text r q view next ts us y n room p l (Err e) f = refused_behind r q p.front f
 
 -- a form of as many levels at least

@@ -12,5 +12,6 @@ read_list-requires g c κs = ((refl, tt), (c.requires.callable, c.requires.short
 
 pub returns : goal.returns
 returns g c l view q h =
-    more_read c.args.text.now l view c.args.tokens.now c.further-behind.result.now c.args.room q (sym c.goes_on.ensures ∙ c.if-not-goes_on.false)
+    more_read c.args.text.now l view c.args.tokens.now c.further-behind.result.now c.args.room q
+    (sym c.goes_on.ensures ∙ c.if-not-goes_on.false)
     c.further-behind.ensures.member c.read_list.result (c.read_list.ensures l view q h)

@@ -6,5 +6,6 @@ use Rattle.c_grammar.proofs.type_names.times.Given as goal
 abbrev pub invariant-loop-other : goal.invariant-loop-other
 invariant-loop-other l =
     (l.number ≡ word_number l.fn.word)
-    × (times l.number (map word_number (drop l.other-index l.words)) + l.count ≡ times l.number (map word_number l.words))
+    × (times l.number (map word_number (drop l.other-index l.words)) + l.count ≡ times l.number
+    (map word_number l.words))
     × (l.count ≤ l.other-index)

@@ -20,5 +20,6 @@ read_list-requires g c κs = (
 
 pub returns : goal.returns
 returns g c =
-    some_arguments c.args.self.now.text.now c.args.tokens.now _ (sym c.next_is.ensures ∙ c.if-next_is.false) c.read_list.result
+    some_arguments c.args.self.now.text.now c.args.tokens.now _
+    (sym c.next_is.ensures ∙ c.if-next_is.false) c.read_list.result
     (c.read_list.ensures Listed.arguments expr_view refl (λ text ts r p. c.requires.nests.reads _ text ts _ r p))

@@ -12,4 +12,5 @@ returns-in_err-whole g c =
 
 pub returns : goal.returns
 returns g c =
-    leads_fits c.loop-whole.invariant.0 (commas_ended (sym c.next_is.ensures ∙ c.loop-whole-test.false) c.loop-whole.invariant.1)
+    leads_fits c.loop-whole.invariant.0 (commas_ended
+    (sym c.next_is.ensures ∙ c.loop-whole-test.false) c.loop-whole.invariant.1)

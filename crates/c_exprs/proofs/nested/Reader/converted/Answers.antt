@@ -10,19 +10,40 @@ use Rattle.c_exprs.proofs.MadeLaws.{at_kind}
 use Rattle.c_exprs.proofs.nested.Reader.converted.Goals as goal
 
 pub returns-in_err-open : goal.returns-in_err-open
-returns-in_err-open g c = passed expr_view c.from_residual.result c.from_residual.ensures.1 (refused_lacking Rule.cast Rule.any c.in_err-open.ensures)
+returns-in_err-open g c =
+    passed expr_view c.from_residual.result c.from_residual.ensures.1
+    (refused_lacking Rule.cast Rule.any c.in_err-open.ensures)
 
 pub returns-in_err-base : goal.returns-in_err-base
-returns-in_err-base g c = passed expr_view c.from_residual-in_err-base.result c.from_residual-in_err-base.ensures.1 (refused_behind Rule.cast Rule.any c.in_ok-open.ensures.1 (refused_lacking Rule.cast Rule.type_name c.in_err-base.ensures))
+returns-in_err-base g c =
+    passed expr_view c.from_residual-in_err-base.result c.from_residual-in_err-base.ensures.1
+    (refused_behind Rule.cast Rule.any c.in_ok-open.ensures.1
+    (refused_lacking Rule.cast Rule.type_name c.in_err-base.ensures))
 
 pub returns-in_err-close : goal.returns-in_err-close
-returns-in_err-close g c = passed expr_view c.from_residual-in_err-close.result c.from_residual-in_err-close.ensures.1 (refused_behind Rule.cast Rule.any c.in_ok-open.ensures.1 (refused_behind Rule.cast Rule.type_name c.in_ok-base.ensures.1 (refused_lacking Rule.cast (Rule.token (kind.Mark mark.CloseParen)) c.in_err-close.ensures)))
+returns-in_err-close g c =
+    passed expr_view c.from_residual-in_err-close.result c.from_residual-in_err-close.ensures.1
+    (refused_behind Rule.cast Rule.any c.in_ok-open.ensures.1
+    (refused_behind Rule.cast Rule.type_name c.in_ok-base.ensures.1
+    (refused_lacking Rule.cast (Rule.token (kind.Mark mark.CloseParen)) c.in_err-close.ensures)))
 
 pub returns-in_err-inner : goal.returns-in_err-inner
-returns-in_err-inner g c = passed expr_view c.from_residual-in_err-inner.result c.from_residual-in_err-inner.ensures.1 (refused_behind Rule.cast Rule.any c.in_ok-open.ensures.1 (refused_behind Rule.cast Rule.type_name c.in_ok-base.ensures.1 (refused_behind Rule.cast (Rule.token (kind.Mark mark.CloseParen)) c.in_ok-close.ensures.1 (refused_part Rule.cast Rule.cast c.in_err-inner.ensures (omega (arith, c.requires.nests.some))))))
+returns-in_err-inner g c =
+    passed expr_view c.from_residual-in_err-inner.result c.from_residual-in_err-inner.ensures.1
+    (refused_behind Rule.cast Rule.any c.in_ok-open.ensures.1
+    (refused_behind Rule.cast Rule.type_name c.in_ok-base.ensures.1
+    (refused_behind Rule.cast (Rule.token (kind.Mark mark.CloseParen)) c.in_ok-close.ensures.1
+    (refused_part Rule.cast Rule.cast c.in_err-inner.ensures (omega (arith, c.requires.nests.some))))))
 
 pub returns-in_err-kind : goal.returns-in_err-kind
-returns-in_err-kind g c = passed expr_view c.from_residual-in_err-kind.result c.from_residual-in_err-kind.ensures.1 Refuses.no_memory
+returns-in_err-kind g c =
+    passed expr_view c.from_residual-in_err-kind.result c.from_residual-in_err-kind.ensures.1 Refuses.no_memory
 
 pub returns : goal.returns
-returns g c = levels_read (omega (arith, c.requires.nests.some)) (token_read Rule.cast Rule.any c.in_ok-open.ensures (token_read Rule.cast Rule.type_name c.in_ok-base.ensures (token_read Rule.cast (Rule.token (kind.Mark mark.CloseParen)) c.in_ok-close.ensures (part_read Rule.cast Rule.cast c.in_ok-inner.ensures (omega (arith, c.requires.nests.some)) (value_read Rule.cast (at_kind c.in_ok-open.open.tree c.at.ensures c.in_ok-kind.ensures))))))
+returns g c =
+    levels_read (omega (arith, c.requires.nests.some))
+    (token_read Rule.cast Rule.any c.in_ok-open.ensures
+    (token_read Rule.cast Rule.type_name c.in_ok-base.ensures
+    (token_read Rule.cast (Rule.token (kind.Mark mark.CloseParen)) c.in_ok-close.ensures
+    (part_read Rule.cast Rule.cast c.in_ok-inner.ensures (omega (arith, c.requires.nests.some))
+    (value_read Rule.cast (at_kind c.in_ok-open.open.tree c.at.ensures c.in_ok-kind.ensures))))))

@@ -9,4 +9,5 @@ returns-then-levels-self g c = Refuses.too_deep (λ t n rest p. omega (arith, p.
 
 pub returns-in_err-first : goal.returns-in_err-first
 returns-in_err-first g c =
-    passed (λ t. t) c.from_residual.result c.from_residual.ensures.1 (deeper_lacking c.args.levels c.in_err-first.ensures)
+    passed (λ t. t) c.from_residual.result c.from_residual.ensures.1
+    (deeper_lacking c.args.levels c.in_err-first.ensures)

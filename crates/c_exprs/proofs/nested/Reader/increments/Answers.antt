@@ -12,4 +12,5 @@ returns-in_err-whole g c =
 
 pub returns : goal.returns
 returns g c =
-    leads_fits c.loop-op.invariant.0 (increments_ended (sym c.increment_at.ensures ∙ c.in_default.is) c.loop-op.invariant.1)
+    leads_fits c.loop-op.invariant.0 (increments_ended
+    (sym c.increment_at.ensures ∙ c.in_default.is) c.loop-op.invariant.1)

@@ -22,12 +22,15 @@ pub returns-in-Number : goal.returns-in-Number
 returns-in-Number g c =
     by_look c.args.self.now.text.now Rule.operand expr_view (operand_as c.args.self.now.text.now) operand_at
     c.args.tokens.now c.args.self.now.room (sym c.operand_at.ensures ∙ c.in-Number.is) c.number.result
-    (moved1 (λ n. Reads expr_view (By c.args.self.now.text.now Rule.operand (operand_as c.args.self.now.text.now (first.Number n c.in-Number.number_type)) c.args.tokens.now) c.args.self.now.room c.number.result) (sym (to_z-of_z w128 c.in-Number.number (search rules))) c.number.ensures)
+    (moved1 (λ n. Reads expr_view (By c.args.self.now.text.now Rule.operand
+    (operand_as c.args.self.now.text.now (first.Number n c.in-Number.number_type)) c.args.tokens.now)
+    c.args.self.now.room c.number.result) (sym (to_z-of_z w128 c.in-Number.number (search rules))) c.number.ensures)
 
 pub returns-in-EofName : goal.returns-in-EofName
 returns-in-EofName g c =
     by_look c.args.self.now.text.now Rule.operand expr_view (operand_as c.args.self.now.text.now) operand_at
-    c.args.tokens.now c.args.self.now.room (sym c.operand_at.ensures ∙ c.in-EofName.is) c.eof_name.result c.eof_name.ensures
+    c.args.tokens.now c.args.self.now.room (sym c.operand_at.ensures
+    ∙ c.in-EofName.is) c.eof_name.result c.eof_name.ensures
 
 pub returns-in-Paren : goal.returns-in-Paren
 returns-in-Paren g c =

@@ -12,4 +12,5 @@ returns-in_err-whole g c =
 
 pub returns : goal.returns
 returns g c =
-    leads_fits c.loop-operator.invariant.0 (operators_ended c.args.precedence (sym c.operator_at.ensures ∙ c.in_default.is) c.loop-operator.invariant.1)
+    leads_fits c.loop-operator.invariant.0 (operators_ended c.args.precedence
+    (sym c.operator_at.ensures ∙ c.in_default.is) c.loop-operator.invariant.1)

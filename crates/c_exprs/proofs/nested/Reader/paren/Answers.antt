@@ -9,13 +9,24 @@ use Rattle.c_exprs.proofs.MadeLaws.{at_kind}
 use Rattle.c_exprs.proofs.nested.Reader.paren.Goals as goal
 
 pub returns-in_err-open : goal.returns-in_err-open
-returns-in_err-open g c = passed expr_view c.from_residual.result c.from_residual.ensures.1 (refused_lacking Rule.operand Rule.any c.in_err-open.ensures)
+returns-in_err-open g c =
+    passed expr_view c.from_residual.result c.from_residual.ensures.1
+    (refused_lacking Rule.operand Rule.any c.in_err-open.ensures)
 
 pub returns-in_err-inner : goal.returns-in_err-inner
-returns-in_err-inner g c = passed expr_view c.from_residual-in_err-inner.result c.from_residual-in_err-inner.ensures.1 (refused_behind Rule.operand Rule.any c.in_ok-open.ensures.1 (refused_part Rule.operand (Rule.closed mark.CloseParen) c.in_err-inner.ensures (omega (arith, c.requires.nests.some))))
+returns-in_err-inner g c =
+    passed expr_view c.from_residual-in_err-inner.result c.from_residual-in_err-inner.ensures.1
+    (refused_behind Rule.operand Rule.any c.in_ok-open.ensures.1
+    (refused_part Rule.operand (Rule.closed mark.CloseParen) c.in_err-inner.ensures
+    (omega (arith, c.requires.nests.some))))
 
 pub returns-in_err-kind : goal.returns-in_err-kind
-returns-in_err-kind g c = passed expr_view c.from_residual-in_err-kind.result c.from_residual-in_err-kind.ensures.1 Refuses.no_memory
+returns-in_err-kind g c =
+    passed expr_view c.from_residual-in_err-kind.result c.from_residual-in_err-kind.ensures.1 Refuses.no_memory
 
 pub returns : goal.returns
-returns g c = levels_read (omega (arith, c.requires.nests.some)) (token_read Rule.operand Rule.any c.in_ok-open.ensures (part_read Rule.operand (Rule.closed mark.CloseParen) c.in_ok-inner.ensures (omega (arith, c.requires.nests.some)) (value_read Rule.operand (at_kind c.in_ok-open.open.tree c.at.ensures c.in_ok-kind.ensures))))
+returns g c =
+    levels_read (omega (arith, c.requires.nests.some))
+    (token_read Rule.operand Rule.any c.in_ok-open.ensures
+    (part_read Rule.operand (Rule.closed mark.CloseParen) c.in_ok-inner.ensures (omega (arith, c.requires.nests.some))
+    (value_read Rule.operand (at_kind c.in_ok-open.open.tree c.at.ensures c.in_ok-kind.ensures))))

@@ -7,13 +7,23 @@ use Rattle.c_grammar.proofs.Steps.{levels_read, part_read, passed, token_read, v
 use Rattle.c_exprs.proofs.nested.Reader.signed.Goals as goal
 
 pub returns-in_err-first : goal.returns-in_err-first
-returns-in_err-first g c = passed expr_view c.from_residual.result c.from_residual.ensures.1 (refused_lacking Rule.unary Rule.any c.in_err-first.ensures)
+returns-in_err-first g c =
+    passed expr_view c.from_residual.result c.from_residual.ensures.1
+    (refused_lacking Rule.unary Rule.any c.in_err-first.ensures)
 
 pub returns-in_err-inner : goal.returns-in_err-inner
-returns-in_err-inner g c = passed expr_view c.from_residual-in_err-inner.result c.from_residual-in_err-inner.ensures.1 (refused_behind Rule.unary Rule.any c.in_ok-first.ensures.1 (refused_part Rule.unary Rule.cast c.in_err-inner.ensures (omega (arith, c.requires.nests.some))))
+returns-in_err-inner g c =
+    passed expr_view c.from_residual-in_err-inner.result c.from_residual-in_err-inner.ensures.1
+    (refused_behind Rule.unary Rule.any c.in_ok-first.ensures.1
+    (refused_part Rule.unary Rule.cast c.in_err-inner.ensures (omega (arith, c.requires.nests.some))))
 
 pub returns-in_err-tree : goal.returns-in_err-tree
-returns-in_err-tree g c = passed expr_view c.from_residual-in_err-tree.result c.from_residual-in_err-tree.ensures.1 Refuses.no_memory
+returns-in_err-tree g c =
+    passed expr_view c.from_residual-in_err-tree.result c.from_residual-in_err-tree.ensures.1 Refuses.no_memory
 
 pub returns : goal.returns
-returns g c = levels_read (omega (arith, c.requires.nests.some)) (token_read Rule.unary Rule.any c.in_ok-first.ensures (part_read Rule.unary Rule.cast c.in_ok-inner.ensures (omega (arith, c.requires.nests.some)) (value_read Rule.unary (c.in_ok-tree.ensures))))
+returns g c =
+    levels_read (omega (arith, c.requires.nests.some))
+    (token_read Rule.unary Rule.any c.in_ok-first.ensures
+    (part_read Rule.unary Rule.cast c.in_ok-inner.ensures (omega (arith, c.requires.nests.some))
+    (value_read Rule.unary (c.in_ok-tree.ensures))))

@@ -7,12 +7,14 @@ use Rattle.c_exprs.proofs.TailLaws.{not_unary, target_refused, target_found}
 use Rattle.c_exprs.proofs.nested.Reader.target.Goals as goal
 
 pub returns-then-not-is_unary : goal.returns-then-not-is_unary
-returns-then-not-is_unary g c = not_unary _ (expr_view c.args.left.tree) _ _ _ c.args.op _ (sym c.is_unary.ensures ∙ c.if-not-is_unary.true)
+returns-then-not-is_unary g c =
+    not_unary _ (expr_view c.args.left.tree) _ _ _ c.args.op _ (sym c.is_unary.ensures ∙ c.if-not-is_unary.true)
 
 pub returns-in_err-side : goal.returns-in_err-side
 returns-in_err-side g c =
     passed expr_view c.from_residual.result c.from_residual.ensures.1
-    (target_refused _ (expr_view c.args.left.tree) _ _ _ c.args.op (sym c.is_unary.ensures ∙ c.if-not-is_unary.false) c.in_err-side.ensures)
+    (target_refused _ (expr_view c.args.left.tree) _ _ _ c.args.op
+    (sym c.is_unary.ensures ∙ c.if-not-is_unary.false) c.in_err-side.ensures)
 
 pub returns-in_err-kind : goal.returns-in_err-kind
 returns-in_err-kind g c =
