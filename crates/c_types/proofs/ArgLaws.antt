@@ -114,17 +114,17 @@ call_made n m args made f result params place line named means fine is = (
 
 -- arguments without fault
 pub all_passed : (n : List Scope) (ps here : List Base) (es : List Held) (done : List TypedExpr)
-    → Whole (arguments n) ps es here done → (args_faults n (exprs_of (map expr_view es)) ≡ [])
+    → Whole (arguments n) [] ps es here done → (args_faults n (exprs_of (map expr_view es)) ≡ [])
     × (typed_exprs_of done ≡ passed ps (typed_args n (exprs_of (map expr_view es))))
 all_passed n ps here es done whole =
     (sym (faults_are n ps es) ∙ whole.fine, ap typed_exprs_of whole.made ∙ passed_are n ps es)
 
 -- a fault of an argument
 pub refused_args : (n : List Scope) (ps here : List Base) (es : List Held) (i : ℕ) (x : Held) (done : List TypedExpr)
-    (e : Refusal TypeFault) → i < length es → x ≡ get_or es i x → Left (arguments n) ps es here (drop i es) done
+    (e : Refusal TypeFault) → i < length es → x ≡ get_or es i x → Left (arguments n) [] ps es here (drop i es) done
     → Stands (value_faults n (expr_view x)) e → Stands (args_faults n (exprs_of (map expr_view es))) e
 refused_args n ps here es i x done e lt is left h =
-    subst (λ fs. Stands fs e) (faults_are n ps es) (refused_at (arguments n) ps here es i x done e lt is left h)
+    subst (λ fs. Stands fs e) (faults_are n ps es) (refused_at (arguments n) [] ps here es i x done e lt is left h)
 
 -- the types of two operands of `?:` that don't fit each other
 pub refused_sides : (n : List Scope) (x y : Expr) (first second : TypedExpr) (e : Refusal TypeFault)

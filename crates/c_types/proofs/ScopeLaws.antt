@@ -22,6 +22,7 @@ use Rattle.std.proofs.Common.{
   is_some,
   Option,
   Some,
+  None,
   bytes_eq,
 }
 use Rattle.indexmap.specs.IndexMap.{insert_entry}
@@ -33,6 +34,9 @@ use Rattle.c_typing.specs.declared.names.Meaning.TheVariants as meant
 use Rattle.c_typing.specs.Names.{Scope, Here, found, is_declared, declare, inner, leaving}
 use Rattle.c_typing.specs.TypedForms.{number_type}
 use Rattle.c_typing.specs.Declarations.{var_length, declare_var, declare_vars}
+use Rattle.c_tree.specs.declared.expr.Base.{Base}
+use Rattle.c_tree.specs.Tree.{Param}
+use Rattle.c_typing.specs.Sources.{declare_param, declare_params, in_function}
 use Rattle.c_typing.specs.Statements.{after, after_other, after_head, after_all, after_item, after_items}
 
 last_by : (b : Bool) (entry more : List ℕ × Meaning) (scope rest : Scope) (name : List ℕ) →
@@ -187,3 +191,60 @@ for_opened h head s two =
     opened h (after (after_head (inner h) head) s)
     (then (inner h).scopes (after_head (inner h) head).scopes (after (after_head (inner h) head) s).scopes
     (head_keeps head (inner h)) (stmt_keeps s (after_head (inner h) head))) two
+
+-- the point behind what was opened, where it is closed
+abbrev pub shut : Here → Here
+shut h = record { scopes = drop 1 h.scopes; next = h.next }
+
+-- a statement leaves as many scopes open
+pub stmt_open : (mid now : Here) (s : Stmt) → now ≡ after mid s → 2 ≤ length mid.scopes → 2 ≤ length now.scopes
+stmt_open mid now s is two =
+    subst (λ h. 2 ≤ length h.scopes) (sym is) (let x = (stmt_keeps s mid).long in omega (arith, x, two))
+
+pub all_open : (mid now : Here) (ss : Stmts) → now ≡ after_all mid ss → 2 ≤ length mid.scopes → 2 ≤ length now.scopes
+all_open mid now ss is two =
+    subst (λ h. 2 ≤ length h.scopes) (sym is) (let x = (all_keep ss mid).long in omega (arith, x, two))
+
+pub head_open : (mid now : Here) (head : ForHead) → now ≡ after_head mid head → 2 ≤ length mid.scopes
+    → 2 ≤ length now.scopes
+head_open mid now head is two =
+    subst (λ h. 2 ≤ length h.scopes) (sym is) (let x = (head_keeps head mid).long in omega (arith, x, two))
+
+pub items_open : (mid now : Here) (is : SwitchItems) → now ≡ after_items mid is → 2 ≤ length mid.scopes
+    → 2 ≤ length now.scopes
+items_open mid now items is two =
+    subst (λ h. 2 ≤ length h.scopes) (sym is) (let x = (items_keep items mid).long in omega (arith, x, two))
+
+param_keeps : (h : Here) (name : Option (List ℕ)) (b : Base) → Keeps h.scopes (declare_param h name b).scopes
+param_keeps h None b = same h.scopes
+param_keeps h (Some name) b =
+    declare_keeps h.scopes name (meant.Variable (cell.Local h.next) None (number_type b))
+
+params_keep : (ps : List Param) (h : Here) → Keeps h.scopes (declare_params h ps).scopes
+params_keep [] h = same h.scopes
+params_keep (p ∷ ps) h =
+    then h.scopes (declare_param h p.name p.base).scopes (declare_params (declare_param h p.name p.base) ps).scopes
+    (param_keeps h p.name p.base) (params_keep ps (declare_param h p.name p.base))
+
+body_keeps : (h : Here) (ps : List Param) (ss : Stmts) → Keeps (in_function h).scopes
+    (after_all (declare_params (in_function h) ps) ss).scopes
+body_keeps h ps ss =
+    then (in_function h).scopes (declare_params (in_function h) ps).scopes
+    (after_all (declare_params (in_function h) ps) ss).scopes (params_keep ps (in_function h))
+    (all_keep ss (declare_params (in_function h) ps))
+
+-- behind a function the scopes are those before it
+pub function_left : (h now end : Here) (ps : List Param) (ss : Stmts) (next : ℕ) → next ≡ h.next
+    → now ≡ after_all (declare_params (in_function h) ps) ss
+    → end ≡ record { scopes = drop 1 now.scopes; next = next } → end ≡ h
+function_left h now end ps ss next first is closed =
+    closed ∙ (ap (λ n. at (drop 1 n.scopes) next) is ∙ (ap (λ n. at n next) (body_keeps h ps ss).outer
+    ∙ ap (λ k. at h.scopes k) first))
+  where
+    at : List Scope → ℕ → Here
+    at n k = record { scopes = n; next = k }
+
+pub params_open : (mid now : Here) (ps : List Param) → now ≡ declare_params mid ps → 2 ≤ length mid.scopes
+    → 2 ≤ length now.scopes
+params_open mid now ps is two =
+    subst (λ h. 2 ≤ length h.scopes) (sym is) (let x = (params_keep ps mid).long in omega (arith, x, two))

@@ -33,6 +33,11 @@ abbrev pub Goes : {A V : Type 0} → (A → V) → List TypeFault → V → Here
 Goes view fs x behind (Ok a) now = (fs ≡ []) × (view a ≡ x) × (now ≡ behind)
 Goes view fs x behind (Err e) now = Stands fs e
 
+-- the same of a part of the text of which nothing is made
+abbrev pub Moves : {A : Type 0} → List TypeFault → Here → Result A (Refusal TypeFault) → Here → Type 0
+Moves fs behind (Ok a) now = (fs ≡ []) × (now ≡ behind)
+Moves fs behind (Err e) now = Stands fs e
+
 -- two typed expressions, as the definitions see them
 abbrev pub pair_view : Held × Held → TypedExpr × TypedExpr
 pair_view p = (typed_expr_view p.0, typed_expr_view p.1)

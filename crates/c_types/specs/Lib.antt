@@ -1,1 +1,4 @@
 pub mod Checks
+pub mod Functions
+pub mod SourceChecks
+pub mod StmtChecks

@@ -1,10 +1,19 @@
-//! The check of names and types: it gives a source its typed form, or names a fault.
+//! The check of names and types: it gives a source its typed form, or names a fault that stands in
+//! it.
 
 #![tactic(auto)]
 
 mod constants;
+mod declarations;
 mod expr;
 mod forms;
+mod functions;
+mod heads;
+mod labels;
 mod scopes;
+mod sources;
+mod statements;
+mod stmt_forms;
 
-pub use c_typing::{Meaning, TypeFault};
+pub use c_typing::TypeFault;
+pub use sources::check;

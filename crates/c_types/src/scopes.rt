@@ -3,6 +3,7 @@
 ghost use Rattle.std.specs.Prelude.{◌≡◌, ◌+◌, ◌≤◌, false, [], ◌∷◌, map, reverse, drop, length, OnOk};
 ghost use Rattle.std.specs.Option.{option_copied};
 ghost use Rattle.c_typing.specs.Names as spec;
+ghost use Rattle.c_typing.specs.Sources.{in_function};
 
 use c_tree::Ident;
 use c_typing::Meaning;
@@ -103,6 +104,25 @@ impl Scopes {
         if let Some(outer) = self.outer.pop() {
             self.inner = outer;
         }
+    }
+
+    /// Opens the scope of a function, whose cells are numbered from 0.
+    pub fn enter(&mut self) -> Result<(), AllocError>
+        ensures entered { OnOk result (self.new ≡ in_function self.old) }
+        ensures within { OnOk result (2 ≤ length self.new.scopes) }
+    {
+        self.open()?;
+        self.next = 0;
+        Ok(())
+    }
+
+    /// Closes the scope of a function. The next cell is again that of the file.
+    pub fn leave(&mut self, next: u64)
+        requires { 2 ≤ length self.old.scopes }
+        ensures { self.new ≡ record { scopes = drop 1 self.old.scopes; next = next } }
+    {
+        self.close();
+        self.next = next;
     }
 
     /// Declares a name that the innermost scope doesn't declare yet.

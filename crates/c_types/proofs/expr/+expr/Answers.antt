@@ -1,4 +1,4 @@
-use Rattle.std.proofs.Common.{arith, sym, ap, subst, ◌∙◌, ◌+◌, ◌++◌, map, drop}
+use Rattle.std.proofs.Common.{arith, [], sym, ap, subst, ◌∙◌, ◌+◌, ◌++◌, map, drop}
 use Rattle.std.proofs.lemmas.Result.{err_from_is_err_and}
 use Rattle.c_tree.specs.TreeView.{kind_view, expr_view, exprs_of}
 use Rattle.c_tree.specs.TypedView.{typed_expr_view}
@@ -67,7 +67,7 @@ pub passed-loop-at-preserved : goal.passed-loop-at-preserved
 passed-loop-at-preserved t c =
     let n = c.args.names.now.scopes in
     let ps = c.args.params.now in
-    goes_on (arguments n) ps (drop c.loop-at.at ps) (drop (c.loop-at.at + 1) ps) c.args.args.now c.loop-at.at c.index-args-at.result
+    goes_on (arguments n) [] ps (drop c.loop-at.at ps) (drop (c.loop-at.at + 1) ps) c.args.args.now c.loop-at.at c.index-args-at.result
     (map typed_expr_view c.loop-at.passed) (map typed_expr_view c.push.new.self) (omega (arith, c.loop-at-test.true)) c.index-args-at.is
     c.loop-at.invariant c.in_ok-arg.ensures.0
     (one_more typed_expr_view c.loop-at.passed c.push.new.self c.in_ok-passed.field-0
@@ -80,5 +80,5 @@ passed-returns t c =
     let n = c.args.names.now.scopes in
     let here = drop c.loop-at.at c.args.params.now in
     all_passed n c.args.params.now here c.args.args.now (map typed_expr_view c.loop-at.passed)
-    (ended (arguments n) c.args.params.now here c.args.args.now c.loop-at.at (map typed_expr_view c.loop-at.passed)
+    (ended (arguments n) [] c.args.params.now here c.args.args.now c.loop-at.at (map typed_expr_view c.loop-at.passed)
     (omega (arith, c.loop-at-test.false)) c.loop-at.invariant)

@@ -1,4 +1,4 @@
-use Rattle.std.proofs.Common.{◌+◌, ◌*◌, max, drop, map}
+use Rattle.std.proofs.Common.{◌+◌, ◌*◌, max, [], drop, map}
 use Rattle.c_tree.specs.TreeView.{expr_view, exprs_of}
 use Rattle.c_tree.specs.TypedView.{typed_expr_view}
 use Rattle.c_tree.specs.Levels.{levels, args_levels}
@@ -42,5 +42,5 @@ decreases-passed l = 4 * args_levels (exprs_of (map expr_view l.args.now)) + 2
 
 abbrev pub invariant-passed-loop-at : goal.invariant-passed-loop-at
 invariant-passed-loop-at l =
-    Left (arguments l.names.scopes) l.params l.args (drop l.at l.params) (drop l.at l.args)
+    Left (arguments l.names.scopes) [] l.params l.args (drop l.at l.params) (drop l.at l.args)
     (map typed_expr_view l.passed)
