@@ -5,3 +5,4 @@ pub mod SideLaws
 pub mod ChainLaws
 pub mod TailLaws
 pub mod InnerLaws
+pub mod Exits

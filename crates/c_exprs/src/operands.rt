@@ -24,6 +24,7 @@ use std::alloc::Global;
 
 impl<'a, F: Copy + Fn(Global, &'a [u8], &'a [Token], Nest, u32) -> Read<'a, Expr>> Reader<'a, F> {
     /// A name.
+    #[tactic(auto, using(crate::proofs::Exits::memory, crate::proofs::Exits::first_exit))]
     fn name(&self, tokens: &'a [Token]) -> Read<'a, Expr>
         requires nests { Nests self.now.room (F.pre self.now.inner) (F.post self.now.inner) }
         ensures { Reads expr_view (By self.now.text.now Rule.operand
@@ -39,6 +40,7 @@ impl<'a, F: Copy + Fn(Global, &'a [u8], &'a [Token], Nest, u32) -> Read<'a, Expr
     }
 
     /// A number of this type, or a character.
+    #[tactic(auto, using(crate::proofs::Exits::first_exit))]
     fn number(&self, tokens: &'a [Token], number: i128, number_type: IntType) -> Read<'a, Expr>
         requires nests { Nests self.now.room (F.pre self.now.inner) (F.post self.now.inner) }
         ensures { Reads expr_view (By self.now.text.now Rule.operand
@@ -54,6 +56,7 @@ impl<'a, F: Copy + Fn(Global, &'a [u8], &'a [Token], Nest, u32) -> Read<'a, Expr
     }
 
     /// `EOF`
+    #[tactic(auto, using(crate::proofs::Exits::first_exit))]
     fn eof_name(&self, tokens: &'a [Token]) -> Read<'a, Expr>
         requires nests { Nests self.now.room (F.pre self.now.inner) (F.post self.now.inner) }
         ensures { Reads expr_view (By self.now.text.now Rule.operand
@@ -78,6 +81,7 @@ impl<'a, F: Copy + Fn(Global, &'a [u8], &'a [Token], Nest, u32) -> Read<'a, Expr
     }
 
     /// `( expr )`
+    #[tactic(auto, using(crate::proofs::Exits::memory, crate::proofs::Exits::first_exit))]
     fn paren(&self, tokens: &'a [Token]) -> Read<'a, Expr>
         requires nests { Nests self.now.room (F.pre self.now.inner) (F.post self.now.inner) }
         ensures { Reads expr_view (By self.now.text.now Rule.operand
@@ -94,6 +98,7 @@ impl<'a, F: Copy + Fn(Global, &'a [u8], &'a [Token], Nest, u32) -> Read<'a, Expr
     }
 
     /// A name, `[`, an expression and `]`.
+    #[tactic(auto, using(crate::proofs::Exits::memory, crate::proofs::Exits::first_exit))]
     fn index(&self, tokens: &'a [Token]) -> Read<'a, Expr>
         requires nests { Nests self.now.room (F.pre self.now.inner) (F.post self.now.inner) }
         ensures { Reads expr_view (By self.now.text.now Rule.operand
@@ -135,6 +140,7 @@ impl<'a, F: Copy + Fn(Global, &'a [u8], &'a [Token], Nest, u32) -> Read<'a, Expr
     }
 
     /// A name, `(`, arguments and `)`.
+    #[tactic(auto, using(crate::proofs::Exits::memory, crate::proofs::Exits::first_exit))]
     fn call(&self, tokens: &'a [Token]) -> Read<'a, Expr>
         requires nests { Nests self.now.room (F.pre self.now.inner) (F.post self.now.inner) }
         ensures { Reads expr_view (By self.now.text.now Rule.operand

@@ -78,6 +78,7 @@ impl<'a, F: Copy + Fn(Global, &'a [u8], &'a [Token], Nest, u32) -> Read<'a, Expr
 
     /// An operator of the precedence above this one, and its right side, joined to the expression
     /// before it.
+    #[tactic(auto, using(crate::proofs::Exits::memory_on))]
     fn joined(
         &self,
         precedence: u8,
@@ -102,6 +103,7 @@ impl<'a, F: Copy + Fn(Global, &'a [u8], &'a [Token], Nest, u32) -> Read<'a, Expr
 
     /// What the operators of the precedence above this one join to an expression, from left to
     /// right.
+    #[tactic(auto, using(crate::proofs::Exits::chain_exit))]
     fn operators(&self, precedence: u8, left: Found<'a, Expr>) -> Read<'a, Expr>
         requires nests { Nests self.now.room (F.pre self.now.inner) (F.post self.now.inner) }
         requires precedence { precedence < 255 }
@@ -131,6 +133,7 @@ impl<'a, F: Copy + Fn(Global, &'a [u8], &'a [Token], Nest, u32) -> Read<'a, Expr
     }
 
     /// `?`, an expression, `:` and a conditional expression behind an expression.
+    #[tactic(auto, using(crate::proofs::Exits::memory))]
     fn chosen(&self, test: Found<'a, Expr>) -> Read<'a, Expr>
         requires nests { Nests self.now.room (F.pre self.now.inner) (F.post self.now.inner) }
         requires fits { test.levels ≤ self.now.room }
@@ -174,6 +177,7 @@ impl<'a, F: Copy + Fn(Global, &'a [u8], &'a [Token], Nest, u32) -> Read<'a, Expr
     }
 
     /// An assignment operator and a value behind its target.
+    #[tactic(auto, using(crate::proofs::Exits::memory))]
     fn target(&self, op: Option<BinOp>, left: Found<'a, Expr>) -> Read<'a, Expr>
         requires nests { Nests self.now.room (F.pre self.now.inner) (F.post self.now.inner) }
         requires fits { left.levels ≤ self.now.room }
@@ -219,6 +223,7 @@ impl<'a, F: Copy + Fn(Global, &'a [u8], &'a [Token], Nest, u32) -> Read<'a, Expr
     }
 
     /// A comma and its right side, joined to the expression before it.
+    #[tactic(auto, using(crate::proofs::Exits::memory_on))]
     fn comma(&self, left: Found<'a, Expr>) -> Read<'a, Expr>
         requires nests { Nests self.now.room (F.pre self.now.inner) (F.post self.now.inner) }
         requires comma { next_is mark.Comma left.rest.now ≡ true }
@@ -237,6 +242,7 @@ impl<'a, F: Copy + Fn(Global, &'a [u8], &'a [Token], Nest, u32) -> Read<'a, Expr
     }
 
     /// What commas join to an expression, from left to right.
+    #[tactic(auto, using(crate::proofs::Exits::chain_exit))]
     fn commas(&self, left: Found<'a, Expr>) -> Read<'a, Expr>
         requires nests { Nests self.now.room (F.pre self.now.inner) (F.post self.now.inner) }
         requires fits { left.levels ≤ self.now.room }

@@ -23,6 +23,7 @@ use std::alloc::Global;
 
 impl<'a, F: Copy + Fn(Global, &'a [u8], &'a [Token], Nest, u32) -> Read<'a, Expr>> Reader<'a, F> {
     /// `++` or `--`, joined to the expression before it.
+    #[tactic(auto, using(crate::proofs::Exits::memory_on))]
     fn increment(&self, op: BinOp, left: Found<'a, Expr>) -> Read<'a, Expr>
         requires op { increment_at left.rest.now ≡ Some op }
         requires fits { left.levels ≤ self.now.room }
@@ -39,6 +40,7 @@ impl<'a, F: Copy + Fn(Global, &'a [u8], &'a [Token], Nest, u32) -> Read<'a, Expr
     }
 
     /// What `++` and `--` join to an expression, from left to right.
+    #[tactic(auto, using(crate::proofs::Exits::chain_exit))]
     fn increments(&self, left: Found<'a, Expr>) -> Read<'a, Expr>
         requires fits { left.levels ≤ self.now.room }
         ensures { Reads expr_view (Front self.now.text.now
@@ -63,6 +65,7 @@ impl<'a, F: Copy + Fn(Global, &'a [u8], &'a [Token], Nest, u32) -> Read<'a, Expr
     }
 
     /// `++` or `--` and a unary expression.
+    #[tactic(auto, using(crate::proofs::Exits::memory, crate::proofs::Exits::first_exit))]
     fn before(&self, tokens: &'a [Token], op: BinOp) -> Read<'a, Expr>
         requires nests { Nests self.now.room (F.pre self.now.inner) (F.post self.now.inner) }
         ensures { Reads expr_view (By self.now.text.now Rule.unary
@@ -79,6 +82,7 @@ impl<'a, F: Copy + Fn(Global, &'a [u8], &'a [Token], Nest, u32) -> Read<'a, Expr
     }
 
     /// A unary operator and a cast expression.
+    #[tactic(auto, using(crate::proofs::Exits::memory, crate::proofs::Exits::first_exit))]
     fn signed(&self, tokens: &'a [Token], operator: UnaryOperator) -> Read<'a, Expr>
         requires nests { Nests self.now.room (F.pre self.now.inner) (F.post self.now.inner) }
         ensures { Reads expr_view (By self.now.text.now Rule.unary
@@ -108,6 +112,7 @@ impl<'a, F: Copy + Fn(Global, &'a [u8], &'a [Token], Nest, u32) -> Read<'a, Expr
     }
 
     /// `( type )` and a cast expression.
+    #[tactic(auto, using(crate::proofs::Exits::memory, crate::proofs::Exits::first_exit))]
     fn converted(&self, tokens: &'a [Token]) -> Read<'a, Expr>
         requires nests { Nests self.now.room (F.pre self.now.inner) (F.post self.now.inner) }
         ensures { Reads expr_view (By self.now.text.now Rule.cast (cast_as true) tokens.now)

@@ -1,26 +1,16 @@
 use Rattle.std.proofs.Common.{arith}
 use Rattle.c_tree.specs.TreeView.{expr_view}
 use Rattle.c_grammar.specs.Rules.{Rule}
-use Rattle.c_grammar.specs.Reads.{Refuses}
-use Rattle.c_grammar.proofs.Laws.{refused_behind, refused_lacking, refused_part}
+use Rattle.c_grammar.proofs.Laws.{refused_behind, refused_part}
 use Rattle.c_grammar.proofs.Steps.{levels_read, part_read, passed, token_read, value_read}
 use Rattle.c_exprs.proofs.MadeLaws.{at_kind}
 use Rattle.c_exprs.proofs.nested.Reader.before.Goals as goal
-
-pub returns-in_err-first : goal.returns-in_err-first
-returns-in_err-first g c =
-    passed expr_view c.from_residual.result c.from_residual.ensures.1
-    (refused_lacking Rule.unary Rule.any c.in_err-first.ensures)
 
 pub returns-in_err-inner : goal.returns-in_err-inner
 returns-in_err-inner g c =
     passed expr_view c.from_residual-in_err-inner.result c.from_residual-in_err-inner.ensures.1
     (refused_behind Rule.unary Rule.any c.in_ok-first.ensures.1
     (refused_part Rule.unary Rule.unary c.in_err-inner.ensures (omega (arith, c.requires.nests.some))))
-
-pub returns-in_err-kind : goal.returns-in_err-kind
-returns-in_err-kind g c =
-    passed expr_view c.from_residual-in_err-kind.result c.from_residual-in_err-kind.ensures.1 Refuses.no_memory
 
 pub returns : goal.returns
 returns g c =

@@ -6,15 +6,9 @@ use Rattle.c_tree.specs.TreeView.{expr_view, exprs_of}
 use Rattle.c_grammar.specs.Words.{name_of}
 use Rattle.c_grammar.specs.Operators.{at}
 use Rattle.c_grammar.specs.Rules.{Rule}
-use Rattle.c_grammar.specs.Reads.{Refuses}
 use Rattle.c_grammar.proofs.Laws.{refused_behind, refused_lacking, refused_part}
 use Rattle.c_grammar.proofs.Steps.{levels_read, part_read, passed, token_read, value_read}
 use Rattle.c_exprs.proofs.nested.Reader.call.Goals as goal
-
-pub returns-in_err-name : goal.returns-in_err-name
-returns-in_err-name g c =
-    passed expr_view c.from_residual.result c.from_residual.ensures.1
-    (refused_lacking Rule.operand Rule.any c.in_err-name.ensures)
 
 pub returns-in_err-open : goal.returns-in_err-open
 returns-in_err-open g c =
@@ -36,10 +30,6 @@ returns-in_err-whole g c =
     (refused_behind Rule.operand Rule.any c.in_ok-open.ensures.1
     (refused_behind Rule.operand Rule.arguments c.in_ok-args.ensures.front
     (refused_lacking Rule.operand (Rule.token (kind.Mark mark.CloseParen)) c.in_err-whole.ensures))))
-
-pub returns-in_err-tree : goal.returns-in_err-tree
-returns-in_err-tree g c =
-    passed expr_view c.from_residual-in_err-tree.result c.from_residual-in_err-tree.ensures.1 Refuses.no_memory
 
 pub returns : goal.returns
 returns g c =

@@ -3,16 +3,10 @@ use Rattle.c_tokens.specs.declared.token.Punct.TheVariants as mark
 use Rattle.c_tokens.specs.declared.token.TokenKind.TheVariants as kind
 use Rattle.c_tree.specs.TreeView.{expr_view}
 use Rattle.c_grammar.specs.Rules.{Rule}
-use Rattle.c_grammar.specs.Reads.{Refuses}
 use Rattle.c_grammar.proofs.Laws.{refused_behind, refused_lacking, refused_part}
 use Rattle.c_grammar.proofs.Steps.{levels_read, part_read, passed, token_read, value_read}
 use Rattle.c_exprs.proofs.MadeLaws.{at_kind}
 use Rattle.c_exprs.proofs.nested.Reader.converted.Goals as goal
-
-pub returns-in_err-open : goal.returns-in_err-open
-returns-in_err-open g c =
-    passed expr_view c.from_residual.result c.from_residual.ensures.1
-    (refused_lacking Rule.cast Rule.any c.in_err-open.ensures)
 
 pub returns-in_err-base : goal.returns-in_err-base
 returns-in_err-base g c =
@@ -34,10 +28,6 @@ returns-in_err-inner g c =
     (refused_behind Rule.cast Rule.type_name c.in_ok-base.ensures.1
     (refused_behind Rule.cast (Rule.token (kind.Mark mark.CloseParen)) c.in_ok-close.ensures.1
     (refused_part Rule.cast Rule.cast c.in_err-inner.ensures (omega (arith, c.requires.nests.some))))))
-
-pub returns-in_err-kind : goal.returns-in_err-kind
-returns-in_err-kind g c =
-    passed expr_view c.from_residual-in_err-kind.result c.from_residual-in_err-kind.ensures.1 Refuses.no_memory
 
 pub returns : goal.returns
 returns g c =

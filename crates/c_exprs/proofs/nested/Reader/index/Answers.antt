@@ -2,15 +2,9 @@ use Rattle.std.proofs.Common.{arith}
 use Rattle.c_tokens.specs.declared.token.Punct.TheVariants as mark
 use Rattle.c_tree.specs.TreeView.{expr_view}
 use Rattle.c_grammar.specs.Rules.{Rule}
-use Rattle.c_grammar.specs.Reads.{Refuses}
 use Rattle.c_grammar.proofs.Laws.{refused_behind, refused_lacking, refused_part}
 use Rattle.c_grammar.proofs.Steps.{levels_read, part_read, passed, token_read, value_read}
 use Rattle.c_exprs.proofs.nested.Reader.index.Goals as goal
-
-pub returns-in_err-array : goal.returns-in_err-array
-returns-in_err-array g c =
-    passed expr_view c.from_residual.result c.from_residual.ensures.1
-    (refused_lacking Rule.operand Rule.any c.in_err-array.ensures)
 
 pub returns-in_err-bracket : goal.returns-in_err-bracket
 returns-in_err-bracket g c =
@@ -25,10 +19,6 @@ returns-in_err-inner g c =
     (refused_behind Rule.operand Rule.any c.in_ok-bracket.ensures.1
     (refused_part Rule.operand (Rule.closed mark.CloseBracket) c.in_err-inner.ensures
     (omega (arith, c.requires.nests.some)))))
-
-pub returns-in_err-tree : goal.returns-in_err-tree
-returns-in_err-tree g c =
-    passed expr_view c.from_residual-in_err-tree.result c.from_residual-in_err-tree.ensures.1 Refuses.no_memory
 
 pub returns : goal.returns
 returns g c =

@@ -2,16 +2,10 @@ use Rattle.std.proofs.Common.{arith}
 use Rattle.c_tokens.specs.declared.token.Punct.TheVariants as mark
 use Rattle.c_tree.specs.TreeView.{expr_view}
 use Rattle.c_grammar.specs.Rules.{Rule}
-use Rattle.c_grammar.specs.Reads.{Refuses}
-use Rattle.c_grammar.proofs.Laws.{refused_behind, refused_lacking, refused_part}
+use Rattle.c_grammar.proofs.Laws.{refused_behind, refused_part}
 use Rattle.c_grammar.proofs.Steps.{levels_read, part_read, passed, token_read, value_read}
 use Rattle.c_exprs.proofs.MadeLaws.{at_kind}
 use Rattle.c_exprs.proofs.nested.Reader.paren.Goals as goal
-
-pub returns-in_err-open : goal.returns-in_err-open
-returns-in_err-open g c =
-    passed expr_view c.from_residual.result c.from_residual.ensures.1
-    (refused_lacking Rule.operand Rule.any c.in_err-open.ensures)
 
 pub returns-in_err-inner : goal.returns-in_err-inner
 returns-in_err-inner g c =
@@ -19,10 +13,6 @@ returns-in_err-inner g c =
     (refused_behind Rule.operand Rule.any c.in_ok-open.ensures.1
     (refused_part Rule.operand (Rule.closed mark.CloseParen) c.in_err-inner.ensures
     (omega (arith, c.requires.nests.some))))
-
-pub returns-in_err-kind : goal.returns-in_err-kind
-returns-in_err-kind g c =
-    passed expr_view c.from_residual-in_err-kind.result c.from_residual-in_err-kind.ensures.1 Refuses.no_memory
 
 pub returns : goal.returns
 returns g c =

@@ -1,6 +1,5 @@
 use Rattle.std.proofs.Common.{sym, ◌∙◌}
 use Rattle.c_tree.specs.TreeView.{expr_view}
-use Rattle.c_grammar.specs.Reads.{Refuses}
 use Rattle.c_grammar.proofs.Steps.{passed}
 use Rattle.c_exprs.proofs.MadeLaws.{at_kind}
 use Rattle.c_exprs.proofs.TailLaws.{not_unary, target_refused, target_found}
@@ -15,10 +14,6 @@ returns-in_err-side g c =
     passed expr_view c.from_residual.result c.from_residual.ensures.1
     (target_refused _ (expr_view c.args.left.tree) _ _ _ c.args.op
     (sym c.is_unary.ensures ∙ c.if-not-is_unary.false) c.in_err-side.ensures)
-
-pub returns-in_err-kind : goal.returns-in_err-kind
-returns-in_err-kind g c =
-    passed expr_view c.from_residual-in_err-kind.result c.from_residual-in_err-kind.ensures.1 Refuses.no_memory
 
 pub returns : goal.returns
 returns g c =
