@@ -3,4 +3,7 @@ pub mod WalkBits
 pub mod WordLaws
 pub mod MaskLaws
 pub mod FitLaws
-mod Rows
+pub mod TestLaws
+pub mod ChunkLaws
+pub mod TableLaws
+mod Worked

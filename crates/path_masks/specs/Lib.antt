@@ -1,3 +1,6 @@
 pub mod UnderWay
 pub mod Masks
+pub mod PathTests
+pub mod Chunks
+pub mod Tables
 pub mod Laws

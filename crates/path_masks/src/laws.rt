@@ -1,7 +1,7 @@
 //! Laws of masks. They speak of definitions alone, so that no change of a body proves them again.
 
-ghost use Rattle.path_masks.specs.Laws.{BitsTell, TestsDecide, WalkBegins, WalkGoesOn, WalksAreSeen};
-ghost use Rattle.path_masks.specs.Laws.{PrimesAreFit};
+ghost use Rattle.path_masks.specs.Laws.{BitsTell, TestsDecide, WalkBegins, WalkGoesOn};
+ghost use Rattle.path_masks.specs.Laws.{WalksAreSeen, PrimesAreFit};
 
 /// Along any walk the bits are exactly those of the paths under way, and the words seen gain
 /// exactly the bits of the paths that the walk contains.
