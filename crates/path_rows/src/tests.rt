@@ -3,6 +3,7 @@
 ghost use Rattle.std.specs.Prelude.{◌≡◌, ◌≤◌, ◌<◌, length, IfOk};
 
 mod nets;
+mod rows;
 mod words;
 
 use crate::list_uncounted;
