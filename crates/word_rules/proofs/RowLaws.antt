@@ -19,8 +19,12 @@ pass_at row at = record {
 }
 
 begin_raw : (row : List ℕ) (at : ℕ) → at + 3 ≤ length row → begin_entries (drop at row)
-    ≡ record { word = get_or row at 0; begin = get_or row (suc at) 0; done = get_or row
-        (suc (suc at)) 0 } ∷ begin_entries (drop (suc (suc (suc at))) row)
+    ≡ record {
+      word = get_or row at 0;
+      begin = get_or row (suc at) 0;
+      done = get_or row
+          (suc (suc at)) 0;
+    } ∷ begin_entries (drop (suc (suc (suc at))) row)
 begin_raw (i ∷ (b ∷ (d ∷ row))) zero l = refl
 begin_raw (i ∷ (b ∷ [])) zero l = absurd (omega (arith, l))
 begin_raw (i ∷ []) zero l = absurd (omega (arith, l))
@@ -32,8 +36,13 @@ pub begin_more : (row : List ℕ) (at : ℕ) → at + 3 ≤ length row
 begin_more row at l = simp unary_clauses (begin_raw row at l)
 
 pass_raw : (row : List ℕ) (at : ℕ) → at + 4 ≤ length row → pass_entries (drop at row)
-    ≡ record { word = get_or row at 0; keep = get_or row (suc at) 0; finish = get_or row (suc (suc at)) 0; start =
-        get_or row (suc (suc (suc at))) 0 } ∷ pass_entries (drop (suc (suc (suc (suc at)))) row)
+    ≡ record {
+      word = get_or row at 0;
+      keep = get_or row (suc at) 0;
+      finish = get_or row (suc (suc at)) 0;
+      start =
+          get_or row (suc (suc (suc at))) 0;
+    } ∷ pass_entries (drop (suc (suc (suc (suc at)))) row)
 pass_raw (i ∷ (k ∷ (f ∷ (s ∷ row)))) zero l = refl
 pass_raw (i ∷ (k ∷ (f ∷ []))) zero l = absurd (omega (arith, l))
 pass_raw (i ∷ (k ∷ [])) zero l = absurd (omega (arith, l))
