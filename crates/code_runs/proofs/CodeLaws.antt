@@ -12,7 +12,7 @@ use Rattle.code_runs.specs.CodeChecks.{values_fault, globals_fault, code_fault}
 use Rattle.code_runs.specs.Sound.{Kept, Sound}
 use Rattle.code_runs.proofs.CheckLaws.{or-none, and-both, typed}
 
-unless_at-none : (b : Bool) (at : ℕ) (r : Rule) → unless_at b at r ≡ None → b ≡ true
+pub unless_at-none : (b : Bool) (at : ℕ) (r : Rule) → unless_at b at r ≡ None → b ≡ true
 unless_at-none true at r h = refl
 unless_at-none false at r h = absurd (cc)
 

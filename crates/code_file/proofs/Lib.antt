@@ -1,0 +1,2 @@
+mod FileRows
+pub mod WriteLaws

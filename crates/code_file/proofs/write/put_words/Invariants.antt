@@ -1,0 +1,8 @@
+use Rattle.std.proofs.Common.{◌≡◌, ◌++◌, drop}
+use Rattle.std.specs.List.{flat_map}
+use Rattle.gcov_items.specs.Items.{word_bytes}
+use Rattle.code_file.proofs.write.put_words.Given as goal
+
+abbrev pub invariant-loop-n : goal.invariant-loop-n
+invariant-loop-n l = l.out.items ++ flat_map word_bytes (drop l.n-index l.words)
+    ≡ l.fn.out.items ++ flat_map word_bytes l.words

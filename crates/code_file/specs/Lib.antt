@@ -1,0 +1,2 @@
+pub mod OpItems
+pub mod Spelling
