@@ -1,0 +1,14 @@
+pub mod Aims
+pub mod Places
+pub mod WalkMarks
+pub mod Simulation
+pub mod LaidLaws
+pub mod Followed
+pub mod Unbroken
+pub mod LightSteps
+pub mod Suiting
+pub mod Every
+pub mod Keeping
+pub mod Levels
+pub mod KeptBlocks
+pub mod LedBlocks

@@ -1,0 +1,15 @@
+use Rattle.stack_code.proofs.Followed.{emitted_follows, laid_emits, laid_passes}
+use Rattle.stack_code.proofs.LaidLaws.{laid_out}
+use Rattle.stack_code.proofs.laws.emission.Goals as goal
+
+pub returns-clause-follows : goal.returns-clause-follows
+returns-clause-follows c = emitted_follows
+
+pub returns-clause-laid : goal.returns-clause-laid
+returns-clause-laid c = laid_out
+
+pub returns-clause-emits : goal.returns-clause-emits
+returns-clause-emits c = laid_emits
+
+pub returns-clause-passes : goal.returns-clause-passes
+returns-clause-passes c = laid_passes

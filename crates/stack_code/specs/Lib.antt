@@ -1,0 +1,6 @@
+pub mod Agreement
+pub mod Checked
+pub mod Emits
+pub mod Laws
+pub mod Laying
+pub mod Orderly

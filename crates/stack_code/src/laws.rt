@@ -1,0 +1,16 @@
+//! Laws of the code of a unit. They speak of definitions alone, so that no change of a body proves
+//! them again.
+
+ghost use Rattle.stack_code.specs.Laws.{EmittedCodeFollows, EachGraphIsLaidOut, LaidCodeIsEmitted, LaidCodePasses};
+
+/// The code of a unit has the output and the ending of the unit's run at every turn limit, and in a
+/// closed run each call marks what stands on the arcs of its walk. The layout lays every graph out,
+/// so its code is one of the unit; and its instructions break no rule.
+///
+/// It does nothing: a caller gets its clauses.
+pub fn emission()
+    ensures follows { EmittedCodeFollows }
+    ensures laid { EachGraphIsLaidOut }
+    ensures emits { LaidCodeIsEmitted }
+    ensures passes { LaidCodePasses }
+{}
