@@ -47,11 +47,11 @@ steps_fall globals cells d [] after h = tt
 steps_fall globals cells d (o ∷ os) after h =
     ((plain o h.0.step).on, steps_fall globals cells (d - takes o + gives o) os after h.1)
 
-goals_ascend : (cases : List (ℤ × ℕ)) → Ascends (goals cases)
+pub goals_ascend : (cases : List (ℤ × ℕ)) → Ascends (goals cases)
 goals_ascend [] = tt
 goals_ascend (c ∷ cases) = ascends-with c.1 (goals cases) (goals_ascend cases)
 
-each_zip : (P Q R : ℕ → Type 0) → ((t : ℕ) → P t → Q t → R t) → (ts : List ℕ) → Each P ts → Each Q ts → Each R ts
+pub each_zip : (P Q R : ℕ → Type 0) → ((t : ℕ) → P t → Q t → R t) → (ts : List ℕ) → Each P ts → Each Q ts → Each R ts
 each_zip P Q R k [] p q = tt
 each_zip P Q R k (t ∷ ts) p q = (k t p.0 q.0, each_zip P Q R k ts p.1 q.1)
 

@@ -12,3 +12,5 @@ pub mod Keeping
 pub mod Levels
 pub mod KeptBlocks
 pub mod LedBlocks
+pub mod Sizes
+pub mod ArcMarks

@@ -1,5 +1,5 @@
 -- Codes that the layout gives, and what their marks have, so that they pass the checks.
-use Rattle.std.specs.Prelude.{◌≡◌, ℕ, true, List, [], ◌∷◌, Some, slice_get}
+use Rattle.std.specs.Prelude.{◌≡◌, ℕ, ◌+◌, true, List, [], ◌∷◌, length, Some, slice_get}
 use Rattle.stack_ops.specs.declared.operation.Op.{Op}
 use Rattle.stack_ops.specs.Code.{FunctionValue, CodeValue}
 use Rattle.code_runs.specs.Checks.{counter_there, row_there}
@@ -18,6 +18,7 @@ pub record IsCodeOf (marks : ℕ → ℕ → List Op) (g : Graph) (f : FunctionV
 pub record IsUnitCode (marks : ℕ → ℕ → ℕ → List Op) (u : GraphUnit) (c : CodeValue) : Type 0 where
   pub main : c.main ≡ u.main
   pub globals : c.globals ≡ u.globals
+  pub count : length c.functions ≡ length u.graphs
   pub functions : (i : ℕ) (g : Graph) → slice_get u.graphs i ≡ Some g
       → (f : FunctionValue) × (slice_get c.functions i ≡ Some f) × IsCodeOf (marks i) g f
 
@@ -31,3 +32,8 @@ pub record Mark (f : FunctionValue) (o : Op) : Type 0 where
 abbrev pub Marks : FunctionValue → List Op → Type 0
 Marks f [] = Unit {0}
 Marks f (o ∷ os) = Mark f o × Marks f os
+
+-- the instructions of all these functions
+abbrev pub instructions : List FunctionValue → ℕ
+instructions [] = 0
+instructions (f ∷ fs) = length f.ops + instructions fs

@@ -1,5 +1,5 @@
 -- What the layers above cite of the code of a unit: it runs as the unit does, and its instructions keep the rules.
-use Rattle.std.specs.Prelude.{◌≡◌, ℕ, List, [], Some, None, slice_get}
+use Rattle.std.specs.Prelude.{◌≡◌, ◌≤◌, ℕ, Bool, length, List, [], Some, None, slice_get}
 use Rattle.stack_ops.specs.declared.operation.Op.{Op}
 use Rattle.stack_ops.specs.Code.{FunctionValue, CodeValue}
 use Rattle.code_runs.specs.Checks.{broken}
@@ -8,9 +8,12 @@ use Rattle.flow_graph.specs.Graph.{Graph, GraphUnit}
 use Rattle.flow_graph.specs.WalkRun.{Walked, WalkRun}
 use Rattle.fake_arcs.specs.Tidy.{IsWellMade}
 use Rattle.stack_code.specs.Agreement.{Agrees}
-use Rattle.stack_code.specs.Checked.{IsUnitCode, Marks}
+use Rattle.cov_base.specs.Net.{NetValue}
+use Rattle.flow_graph.specs.Nets.{size_of}
+use Rattle.stack_code.specs.Checked.{IsUnitCode, Marks, instructions}
 use Rattle.stack_code.specs.Emits.{LaidOut, AreMarks, Emits}
 use Rattle.stack_code.specs.Laying.{starts, graph_code}
+use Rattle.stack_code.specs.Modes.{ShapeValue, HasPlan, covered_marks, unit_marks}
 use Rattle.stack_code.specs.Orderly.{IsOrderly, IsDeepEnough}
 
 -- each graph of a unit is well made
@@ -35,10 +38,15 @@ abbrev pub EachGraphIsLaidOut : Type 0
 EachGraphIsLaidOut =
     (marks : ℕ → ℕ → List Op) (g : Graph) → LaidOut (starts marks g) marks g (graph_code marks g)
 
--- marks on the arcs of each function are nothing but marks, and nothing stands on the arcs into the exit
+-- at most three marks stand on an arc
+abbrev pub AreShort : (ℕ → ℕ → List Op) → Type 0
+AreShort marks = (a b : ℕ) → length (marks a b) ≤ 3
+
+-- Marks on the arcs of each function are nothing but marks, few on each, and none on the arcs into the exit.
 pub record AreArcMarks (marks : ℕ → ℕ → ℕ → List Op) : Type 0 where
   pub are_marks : (i a b : ℕ) → AreMarks (marks i a b)
   pub exit : (i a : ℕ) → marks i a 1 ≡ []
+  pub short : (i : ℕ) → AreShort (marks i)
 
 -- So the code by the layout is a code of its unit.
 abbrev pub LaidCodeIsEmitted : Type 0
@@ -52,3 +60,18 @@ LaidCodePasses = (marks : ℕ → ℕ → ℕ → List Op) (u : GraphUnit) (c : 
     → (i : ℕ) (g : Graph) (f : FunctionValue) → slice_get u.graphs i ≡ Some g → slice_get c.functions i ≡ Some f
     → (orderly : IsOrderly u g) → ((a b : ℕ) → Marks f (marks i a b)) → IsDeepEnough u g orderly.steady f.depth
     → broken c f ≡ None
+
+-- The code has no more instructions than the unit's size.
+abbrev pub LaidCodeIsShort : Type 0
+LaidCodeIsShort = (marks : ℕ → ℕ → ℕ → List Op) (u : GraphUnit) (c : CodeValue) → IsUnitCode marks u c
+    → AreArcMarks marks → instructions c.functions ≤ size_of u
+
+-- What stands on arcs in the two modes is such marks.
+abbrev pub ModesOnlyMark : Type 0
+ModesOnlyMark = (covered : Bool) (shapes : List ShapeValue)
+    → ((i : ℕ) (s : ShapeValue) → slice_get shapes i ≡ Some s → HasPlan s) → AreArcMarks (unit_marks covered shapes)
+
+-- Where a function has as many counters as its plan, its marks name counters that are there.
+abbrev pub CountersAreThere : Type 0
+CountersAreThere = (f : FunctionValue) (net : NetValue) (plan : List ℕ) → length plan ≡ f.counters → (a b : ℕ)
+    → Marks f (covered_marks net plan a b)

@@ -3,4 +3,5 @@ pub mod Checked
 pub mod Emits
 pub mod Laws
 pub mod Laying
+pub mod Modes
 pub mod Orderly

@@ -1,11 +1,14 @@
 //! Laws of the code of a unit. They speak of definitions alone, so that no change of a body proves
 //! them again.
 
-ghost use Rattle.stack_code.specs.Laws.{EmittedCodeFollows, EachGraphIsLaidOut, LaidCodeIsEmitted, LaidCodePasses};
+ghost use Rattle.stack_code.specs.Laws.{EmittedCodeFollows, EachGraphIsLaidOut};
+ghost use Rattle.stack_code.specs.Laws.{LaidCodeIsEmitted, LaidCodePasses};
+ghost use Rattle.stack_code.specs.Laws.{LaidCodeIsShort, ModesOnlyMark, CountersAreThere};
 
 /// The code of a unit has the output and the ending of the unit's run at every turn limit, and in a
 /// closed run each call marks what stands on the arcs of its walk. The layout lays every graph out,
-/// so its code is one of the unit; and its instructions break no rule.
+/// so its code is one of the unit; its instructions break no rule, and are no more than the unit's
+/// size. In both modes only marks stand on arcs, and those of a counted arc name its counter.
 ///
 /// It does nothing: a caller gets its clauses.
 pub fn emission()
@@ -13,4 +16,7 @@ pub fn emission()
     ensures laid { EachGraphIsLaidOut }
     ensures emits { LaidCodeIsEmitted }
     ensures passes { LaidCodePasses }
+    ensures short { LaidCodeIsShort }
+    ensures modes { ModesOnlyMark }
+    ensures counters { CountersAreThere }
 {}

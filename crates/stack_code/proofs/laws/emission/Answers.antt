@@ -1,5 +1,7 @@
 use Rattle.stack_code.proofs.Followed.{emitted_follows, laid_emits, laid_passes}
+use Rattle.stack_code.proofs.ArcMarks.{modes_mark, counters_there}
 use Rattle.stack_code.proofs.LaidLaws.{laid_out}
+use Rattle.stack_code.proofs.Sizes.{laid_short}
 use Rattle.stack_code.proofs.laws.emission.Goals as goal
 
 pub returns-clause-follows : goal.returns-clause-follows
@@ -13,3 +15,12 @@ returns-clause-emits c = laid_emits
 
 pub returns-clause-passes : goal.returns-clause-passes
 returns-clause-passes c = laid_passes
+
+pub returns-clause-short : goal.returns-clause-short
+returns-clause-short c = laid_short
+
+pub returns-clause-modes : goal.returns-clause-modes
+returns-clause-modes c = modes_mark
+
+pub returns-clause-counters : goal.returns-clause-counters
+returns-clause-counters c = counters_there
