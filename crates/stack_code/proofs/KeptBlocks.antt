@@ -14,6 +14,7 @@ use Rattle.code_runs.specs.Sound.{Suits, Typed}
 use Rattle.flow_graph.specs.Graph.{Ending, Block, Graph, GraphUnit}
 use Rattle.lower_agrees.specs.Agreement.{is_back}
 use Rattle.operand_depths.specs.Depths.{Runs, Leaves, Leads, Finds, given}
+use Rattle.stack_code.specs.Deepest.{left, far, called_far}
 use Rattle.stack_code.specs.Emits.{Has}
 use Rattle.stack_code.specs.Laying.{is_bare, tail, goals, stubs, end_code, block_code, starts, graph_code}
 use Rattle.stack_code.specs.Orderly.{IsOrderly, FitWithin, IsDeepEnough}
@@ -23,7 +24,7 @@ use Rattle.stack_code.proofs.Every.{Every, every_join, every_at, every_graph}
 use Rattle.stack_code.proofs.Keeping.{Level, level_first, level_moved, Ahead, marks_kept, tail_kept}
 use Rattle.stack_code.proofs.Keeping.{tail_entry, tail_falls, switch_kept, branch_kept}
 use Rattle.stack_code.proofs.LaidLaws.{next_stands, size_end, switch_size, start_end}
-use Rattle.stack_code.proofs.Levels.{depths_of, left, near, far, called_far, end_size, levels, levels_long, Levels}
+use Rattle.stack_code.proofs.Levels.{depths_of, near, end_size, levels, levels_long, Levels}
 use Rattle.stack_code.proofs.Levels.{levels_of, some_end, through_next, begun, there_is, leads_aims, left_after}
 use Rattle.stack_code.proofs.Levels.{aims_both, level_has}
 use Rattle.stack_code.proofs.LightSteps.{light}

@@ -1,6 +1,6 @@
 -- The operands at each instruction of a graph's code.
 use Rattle.std.proofs.Common.{◌≡◌, refl, sym, ap, subst, ◌∙◌, ℕ, zero, suc, ◌+◌, ◌-◌, ◌<◌, ◌≤◌, ◌==◌}
-use Rattle.std.proofs.Common.{Bool, true, false, cond, List, [], ◌∷◌, ◌++◌, length, replicate, Option, Some, None}
+use Rattle.std.proofs.Common.{Bool, true, false, cond, List, [], ◌∷◌, ◌++◌, length, replicate, Option, Some}
 use Rattle.std.proofs.Common.{arith, length-append, eqb-true}
 use Rattle.std.specs.Prelude.{ℤ, slice_get}
 use Rattle.std.proofs.lemmas.Option.{slice_get_within}
@@ -12,7 +12,8 @@ use Rattle.c_tree.specs.Sound.{Each}
 use Rattle.flow_graph.specs.Graph.{Ending, Block, Graph, GraphUnit}
 use Rattle.flow_graph.specs.Nets.{targets, among}
 use Rattle.fake_arcs.proofs.Lockstep.{itself}
-use Rattle.operand_depths.specs.Depths.{Steady, Runs, Leaves, Leads, given}
+use Rattle.operand_depths.specs.Depths.{Steady, Runs, Leaves, Leads}
+use Rattle.stack_code.specs.Deepest.{left, far, called_far}
 use Rattle.stack_code.specs.Emits.{Has}
 use Rattle.stack_code.specs.Laying.{is_bare, branch, end_code, block_size, starts}
 use Rattle.stack_code.specs.Laying.{graph_code}
@@ -23,14 +24,10 @@ use Rattle.stack_code.proofs.LaidLaws.{joined, AreLong, pieces_stand, next_stand
 use Rattle.stack_code.proofs.LaidLaws.{code_piece, codes_joined}
 use Rattle.stack_code.proofs.Places.{has_join}
 
--- the operands at each of some operations, and those behind them
+-- the operands at each of some operations
 abbrev pub depths_of : ℕ → List Op → List ℕ
 depths_of d [] = []
 depths_of d (o ∷ os) = d ∷ depths_of (d - takes o + gives o) os
-
-abbrev pub left : ℕ → List Op → ℕ
-left d [] = d
-left d (o ∷ os) = left (d - takes o + gives o) os
 
 -- how many instructions of an ending have as many operands as the first
 abbrev pub near : Ending → ℕ
@@ -41,20 +38,6 @@ near (Ending.Switch cases t) = length cases + 1
 near (Ending.Call f line t) = 1
 near Ending.Return = 1
 near Ending.Exit = 1
-
-abbrev pub called_far : Option Graph → ℕ → ℕ
-called_far None e = e
-called_far (Some h) e = e - h.params + given h.gives
-
--- how many the others have
-abbrev pub far : List Graph → Ending → ℕ → ℕ
-far gs (Ending.Jump t) e = e
-far gs (Ending.Back t) e = e
-far gs (Ending.Branch t f) e = e - 1
-far gs (Ending.Switch cases t) e = e - 1
-far gs (Ending.Call f line t) e = called_far (slice_get gs f) e
-far gs Ending.Return e = e
-far gs Ending.Exit e = e
 
 -- how long the code of an ending is
 abbrev pub end_size : (ℕ → ℕ → List Op) → ℕ → Block → ℕ

@@ -14,3 +14,4 @@ pub mod KeptBlocks
 pub mod LedBlocks
 pub mod Sizes
 pub mod ArcMarks
+pub mod Deep

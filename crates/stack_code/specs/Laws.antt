@@ -11,6 +11,8 @@ use Rattle.stack_code.specs.Agreement.{Agrees}
 use Rattle.cov_base.specs.Net.{NetValue}
 use Rattle.flow_graph.specs.Nets.{size_of}
 use Rattle.stack_code.specs.Checked.{IsUnitCode, Marks, instructions}
+use Rattle.operand_depths.specs.Depths.{depth_limit}
+use Rattle.stack_code.specs.Deepest.{graph_depth}
 use Rattle.stack_code.specs.Emits.{LaidOut, AreMarks, Emits}
 use Rattle.stack_code.specs.Laying.{starts, graph_code}
 use Rattle.stack_code.specs.Modes.{ShapeValue, HasPlan, covered_marks, unit_marks}
@@ -75,3 +77,12 @@ ModesOnlyMark = (covered : Bool) (shapes : List ShapeValue)
 abbrev pub CountersAreThere : Type 0
 CountersAreThere = (f : FunctionValue) (net : NetValue) (plan : List ℕ) → length plan ≡ f.counters → (a b : ℕ)
     → Marks f (covered_marks net plan a b)
+
+-- the counted depth of an orderly graph is enough for it, and within the limit
+pub record IsCounted (u : GraphUnit) (g : Graph) (orderly : IsOrderly u g) : Type 0 where
+  pub enough : IsDeepEnough u g orderly.steady (graph_depth u.graphs g)
+  pub low : graph_depth u.graphs g ≤ depth_limit
+
+-- So it is for every orderly graph.
+abbrev pub CountedDepthIsEnough : Type 0
+CountedDepthIsEnough = (u : GraphUnit) (g : Graph) (orderly : IsOrderly u g) → IsCounted u g orderly

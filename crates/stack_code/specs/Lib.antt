@@ -1,5 +1,6 @@
 pub mod Agreement
 pub mod Checked
+pub mod Deepest
 pub mod Emits
 pub mod Laws
 pub mod Laying

@@ -1,3 +1,4 @@
+use Rattle.stack_code.proofs.Deep.{counted_enough}
 use Rattle.stack_code.proofs.Followed.{emitted_follows, laid_emits, laid_passes}
 use Rattle.stack_code.proofs.ArcMarks.{modes_mark, counters_there}
 use Rattle.stack_code.proofs.LaidLaws.{laid_out}
@@ -24,3 +25,6 @@ returns-clause-modes c = modes_mark
 
 pub returns-clause-counters : goal.returns-clause-counters
 returns-clause-counters c = counters_there
+
+pub returns-clause-depth : goal.returns-clause-depth
+returns-clause-depth c = counted_enough
