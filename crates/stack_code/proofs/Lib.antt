@@ -15,3 +15,4 @@ pub mod LedBlocks
 pub mod Sizes
 pub mod ArcMarks
 pub mod Deep
+pub mod Sounding

@@ -3,6 +3,7 @@ use Rattle.std.specs.Prelude.{◌≡◌, ◌≤◌, ℕ, Bool, length, List, [],
 use Rattle.stack_ops.specs.declared.operation.Op.{Op}
 use Rattle.stack_ops.specs.Code.{FunctionValue, CodeValue}
 use Rattle.code_runs.specs.Checks.{broken}
+use Rattle.code_runs.specs.Sound.{Sound}
 use Rattle.code_runs.specs.CodeRun.{Ran, CodeRun}
 use Rattle.flow_graph.specs.Graph.{Graph, GraphUnit}
 use Rattle.flow_graph.specs.WalkRun.{Walked, WalkRun}
@@ -16,7 +17,7 @@ use Rattle.stack_code.specs.Deepest.{graph_depth}
 use Rattle.stack_code.specs.Emits.{LaidOut, AreMarks, Emits}
 use Rattle.stack_code.specs.Laying.{starts, graph_code}
 use Rattle.stack_code.specs.Modes.{ShapeValue, HasPlan, covered_marks, unit_marks}
-use Rattle.stack_code.specs.Orderly.{IsOrderly, IsDeepEnough}
+use Rattle.stack_code.specs.Orderly.{IsOrderly, IsDeepEnough, IsOrderlyUnit}
 
 -- each graph of a unit is well made
 abbrev pub AreWellMade : GraphUnit → Type 0
@@ -86,3 +87,15 @@ pub record IsCounted (u : GraphUnit) (g : Graph) (orderly : IsOrderly u g) : Typ
 -- So it is for every orderly graph.
 abbrev pub CountedDepthIsEnough : Type 0
 CountedDepthIsEnough = (u : GraphUnit) (g : Graph) (orderly : IsOrderly u g) → IsCounted u g orderly
+
+-- the functions of a code have the counters and rows that their marks name, and the depth that is counted in their
+-- graphs
+pub record SuitsUnit (marks : ℕ → ℕ → ℕ → List Op) (u : GraphUnit) (c : CodeValue) : Type 0 where
+  pub marked : (i : ℕ) (f : FunctionValue) → slice_get c.functions i ≡ Some f → (a b : ℕ) → Marks f (marks i a b)
+  pub depth : (i : ℕ) (g : Graph) (f : FunctionValue) → slice_get u.graphs i ≡ Some g
+      → slice_get c.functions i ≡ Some f → f.depth ≡ graph_depth u.graphs g
+
+-- The code of an orderly unit by the layout is sound: so it is never stuck, and each of its runs ends.
+abbrev pub LaidCodeIsSound : Type 0
+LaidCodeIsSound = (marks : ℕ → ℕ → ℕ → List Op) (u : GraphUnit) (c : CodeValue) → IsUnitCode marks u c
+    → IsOrderlyUnit u → SuitsUnit marks u c → Sound c

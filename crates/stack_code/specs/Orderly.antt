@@ -39,3 +39,13 @@ FitWithin most depth (o ∷ ops) = (depth ≤ most) × FitWithin most (depth - t
 abbrev pub IsDeepEnough : (u : GraphUnit) (g : Graph) → Steady u g → ℕ → Type 0
 IsDeepEnough u g steady most =
     (k : ℕ) (b : Block) → slice_get g.blocks k ≡ Some b → FitWithin most (steady.depths (2 + k)) b.ops
+
+-- Each graph of a unit is orderly and has cells for its parameters, and its main function has no parameters and gives
+-- a number.
+pub record IsOrderlyUnit (u : GraphUnit) : Type 0 where
+  pub main : Graph
+  pub there : slice_get u.graphs u.main ≡ Some main
+  pub bare : main.params ≡ 0
+  pub gives : main.gives ≡ true
+  pub params : (i : ℕ) (g : Graph) → slice_get u.graphs i ≡ Some g → g.params ≤ g.cells
+  pub each : (i : ℕ) (g : Graph) → slice_get u.graphs i ≡ Some g → IsOrderly u g

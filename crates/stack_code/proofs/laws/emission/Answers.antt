@@ -2,6 +2,7 @@ use Rattle.stack_code.proofs.Deep.{counted_enough}
 use Rattle.stack_code.proofs.Followed.{emitted_follows, laid_emits, laid_passes}
 use Rattle.stack_code.proofs.ArcMarks.{modes_mark, counters_there}
 use Rattle.stack_code.proofs.LaidLaws.{laid_out}
+use Rattle.stack_code.proofs.Sounding.{laid_sound}
 use Rattle.stack_code.proofs.Sizes.{laid_short}
 use Rattle.stack_code.proofs.laws.emission.Goals as goal
 
@@ -28,3 +29,6 @@ returns-clause-counters c = counters_there
 
 pub returns-clause-depth : goal.returns-clause-depth
 returns-clause-depth c = counted_enough
+
+pub returns-clause-sound : goal.returns-clause-sound
+returns-clause-sound c = laid_sound
