@@ -13,7 +13,8 @@ use Rattle.flow_graph.specs.Graph.{Ending, Block, Graph}
 use Rattle.flow_graph.specs.Nets.{targets, among, real, arcs_out, arcs_from, net_of, ending_size, blocks_size}
 use Rattle.flow_graph.specs.Nets.{graphs_size}
 use Rattle.stack_ops.specs.Code.{FunctionValue}
-use Rattle.stack_code.specs.Checked.{IsCodeOf, instructions}
+use Rattle.code_runs.specs.Counts.{sizes}
+use Rattle.stack_code.specs.Checked.{IsCodeOf}
 use Rattle.stack_code.specs.Laws.{AreShort, LaidCodeIsShort}
 use Rattle.stack_code.specs.Laying.{is_bare, tail, stub, goals, stubs, branch, end_code}
 use Rattle.stack_code.specs.Laying.{block_size, codes, starts, graph_code}
@@ -169,7 +170,7 @@ functions_short : (marks : ℕ → ℕ → ℕ → List Op) → ((i : ℕ) → A
     (fs : List FunctionValue) → length fs ≡ length gs
     → ((i : ℕ) (g : Graph) → slice_get gs i ≡ Some g
     → (f : FunctionValue) × (slice_get fs i ≡ Some f) × IsCodeOf (marks (n + i)) g f)
-    → instructions fs ≤ graphs_size gs
+    → sizes fs ≤ graphs_size gs
 functions_short marks short n [] [] len are = omega arith
 functions_short marks short n [] (f ∷ fs) len are = absurd (omega (arith, len))
 functions_short marks short n (g ∷ gs) [] len are = absurd (omega (arith, len))
@@ -180,7 +181,7 @@ functions_short marks short n (g ∷ gs) (f ∷ fs) len are =
     let size : length f.ops ≡ length (graph_code (marks (n + 0)) g) = ap length is.ops in
     let one : length (graph_code (marks (n + 0)) g) ≤ blocks_size g.blocks + 8 * length ((net_of g).arcs) =
     graph_short (marks (n + 0)) (short (n + 0)) g in
-    let rest : instructions fs ≤ graphs_size gs =
+    let rest : sizes fs ≤ graphs_size gs =
     functions_short marks short (suc n) gs fs (omega (arith, len))
     (λ i k at. (let e : n + suc i ≡ suc n + i = omega arith in
     let m = are (suc i) k at in (m.0, m.1, subst (λ y. IsCodeOf (marks y) k m.0) e m.2))) in

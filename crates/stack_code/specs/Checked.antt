@@ -1,5 +1,5 @@
 -- Codes that the layout gives, and what their marks have, so that they pass the checks.
-use Rattle.std.specs.Prelude.{◌≡◌, ℕ, ◌+◌, true, List, [], ◌∷◌, length, Some, slice_get}
+use Rattle.std.specs.Prelude.{◌≡◌, ℕ, true, List, [], ◌∷◌, length, Some, slice_get}
 use Rattle.stack_ops.specs.declared.operation.Op.{Op}
 use Rattle.stack_ops.specs.Code.{FunctionValue, CodeValue}
 use Rattle.code_runs.specs.Checks.{counter_there, row_there}
@@ -32,8 +32,3 @@ pub record Mark (f : FunctionValue) (o : Op) : Type 0 where
 abbrev pub Marks : FunctionValue → List Op → Type 0
 Marks f [] = Unit {0}
 Marks f (o ∷ os) = Mark f o × Marks f os
-
--- the instructions of all these functions
-abbrev pub instructions : List FunctionValue → ℕ
-instructions [] = 0
-instructions (f ∷ fs) = length f.ops + instructions fs

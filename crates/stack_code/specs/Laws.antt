@@ -1,18 +1,19 @@
 -- What the layers above cite of the code of a unit: it runs as the unit does, and its instructions keep the rules.
 use Rattle.std.specs.Prelude.{◌≡◌, ◌≤◌, ℕ, Bool, length, List, [], Some, None, slice_get}
-use Rattle.stack_ops.specs.declared.operation.Op.{Op}
+use Rattle.cov_base.specs.Net.{NetValue}
 use Rattle.stack_ops.specs.Code.{FunctionValue, CodeValue}
+use Rattle.stack_ops.specs.declared.operation.Op.{Op}
 use Rattle.code_runs.specs.Checks.{broken}
-use Rattle.code_runs.specs.Sound.{Sound}
 use Rattle.code_runs.specs.CodeRun.{Ran, CodeRun}
+use Rattle.code_runs.specs.Counts.{sizes}
+use Rattle.code_runs.specs.Sound.{Sound}
 use Rattle.flow_graph.specs.Graph.{Graph, GraphUnit}
+use Rattle.flow_graph.specs.Nets.{size_of}
 use Rattle.flow_graph.specs.WalkRun.{Walked, WalkRun}
 use Rattle.fake_arcs.specs.Tidy.{IsWellMade}
-use Rattle.stack_code.specs.Agreement.{Agrees}
-use Rattle.cov_base.specs.Net.{NetValue}
-use Rattle.flow_graph.specs.Nets.{size_of}
-use Rattle.stack_code.specs.Checked.{IsUnitCode, Marks, instructions}
 use Rattle.operand_depths.specs.Depths.{depth_limit}
+use Rattle.stack_code.specs.Agreement.{Agrees}
+use Rattle.stack_code.specs.Checked.{IsUnitCode, Marks}
 use Rattle.stack_code.specs.Deepest.{graph_depth}
 use Rattle.stack_code.specs.Emits.{LaidOut, AreMarks, Emits}
 use Rattle.stack_code.specs.Laying.{starts, graph_code}
@@ -67,7 +68,7 @@ LaidCodePasses = (marks : ℕ → ℕ → ℕ → List Op) (u : GraphUnit) (c : 
 -- The code has no more instructions than the unit's size.
 abbrev pub LaidCodeIsShort : Type 0
 LaidCodeIsShort = (marks : ℕ → ℕ → ℕ → List Op) (u : GraphUnit) (c : CodeValue) → IsUnitCode marks u c
-    → AreArcMarks marks → instructions c.functions ≤ size_of u
+    → AreArcMarks marks → sizes c.functions ≤ size_of u
 
 -- What stands on arcs in the two modes is such marks.
 abbrev pub ModesOnlyMark : Type 0
