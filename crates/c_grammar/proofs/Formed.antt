@@ -483,9 +483,23 @@ kept text Rule.cases f = (tt, λ t n w. (tt, λ is n g. (tt, λ c n u. g)))
 kept text Rule.item f = λ ts s. item_kept text (type_at ts)
 kept text Rule.switch_item f = λ ts s. switch_item_kept text (item_at ts)
 kept text Rule.outer f = λ ts s. outer_kept text (function_at ts)
-kept text Rule.function_head f =
-    (tt, λ b n u. (tt, λ t n w. (tt, λ o n v. (tt, λ ps n g. (tt, λ c n z.
-    record { name = w.0.name w.1; line = w.0.line })))))
+kept text Rule.function_head f = (
+  tt,
+  λ b n u. (
+    tt,
+    λ t n w. (
+      tt,
+      λ o n v. (
+        tt,
+        λ ps n g. (
+          tt,
+          λ c n z.
+              record { name = w.0.name w.1; line = w.0.line },
+        ),
+      ),
+    ),
+  ),
+)
 kept text (Rule.body h) f = λ ts s. body_kept text h (next_is mark.Semicolon ts) f
 kept text Rule.parameters f = λ ts s. parameters_kept text (params_at ts)
 kept text Rule.parameter f = λ ts s. (tt, λ base n u us v. named_kept text base (first_start ts) (name_at us))
