@@ -1,11 +1,12 @@
 -- The rows of a table, word by word and arc by arc.
-use Rattle.std.proofs.Common.{◌≡◌, refl, sym, ap, ap₂, ◌∙◌, ℕ, suc, ◌+◌, ◌-◌, ◌*◌, ◌/◌, ◌≤◌, ◌<◌, List}
+use Rattle.std.proofs.Common.{subst, zero, suc, ◌≡◌, refl, sym, ap, ap₂, ◌∙◌, ℕ, suc, ◌+◌, ◌-◌, ◌*◌, ◌/◌, ◌≤◌, ◌<◌}
+use Rattle.std.proofs.Common.{List}
 use Rattle.std.proofs.Common.{[], ◌∷◌, ◌++◌, length, map, get_or, take, drop, flat_map, Option, Some, None}
 use Rattle.std.proofs.Common.{Bool, true, false, arith, append_assoc, append-nil, length-append, take_all}
 use Rattle.std.proofs.Common.{slice_range, mul-suc, add_comm}
 use Rattle.std.proofs.Math.Seq.{drop-append_seam}
 use Rattle.std.proofs.lemmas.Bool.{cond-true, cond-false}
-use Rattle.std.proofs.lemmas.List.{drop_more, take-append-le}
+use Rattle.std.proofs.lemmas.List.{get_or-map, length-map, drop_more, take-append-le}
 use Rattle.cov_base.specs.declared.net.FlowArc.{FlowArc}
 use Rattle.word_rules.specs.WordRules.{BeginEntry, PassEntry, begin_spelled, pass_spelled}
 use Rattle.prime_paths.specs.Lister.{numbers}
@@ -203,3 +204,62 @@ span_some ps arc table new spans more from to e h f t m =
     m ∙ ap₂ (λ (a b : ℕ). spans ++ Some (record { from = a; to = b }) ∷ []) f
     (t ∙ ap (λ (x : List ℕ). length x) h ∙ length-append table (pass_spelled (row_of_move arc.from arc.to ps)))
     ∙ ap (λ r. spans ++ span_of (length table) r ∷ []) (sym e)
+
+-- ---- the row of an arc
+
+placed_at : (front : List ℕ) (rows : List (Option (List ℕ))) (k : ℕ) (s : RowSpan)
+    → get_or (laid (length front) rows) k None ≡ Some s
+    → (s.from ≤ s.to) × (s.to ≤ length (front ++ flat_map row_or rows))
+placed_at front [] k s e = absurd (let never : None ≡ Some s = e in cc)
+placed_at front (None ∷ rows) zero s e = absurd (let never : None ≡ Some s = e in cc)
+placed_at front (None ∷ rows) (suc k) s e = placed_at front rows k s (ap (λ n. get_or (laid n rows) k None) none ∙ e)
+  where
+    none : length front ≡ length front + 0
+    none = omega arith
+placed_at front (Some row ∷ rows) zero s e =
+    let from : length front ≡ s.from = ap from_of e in
+    let to : length front + length row ≡ s.to = ap to_of e in
+    let a = length-append front (row ++ flat_map row_or rows) in
+    let b = length-append row (flat_map row_or rows) in
+    (omega (arith, from, to), omega (arith, to, a, b))
+  where
+    from_of : Option RowSpan → ℕ
+    from_of None = 0
+    from_of (Some s) = s.from
+
+    to_of : Option RowSpan → ℕ
+    to_of None = 0
+    to_of (Some s) = s.to
+placed_at front (Some row ∷ rows) (suc k) s e =
+    let h = placed_at (front ++ row) rows k s (ap (λ n. get_or (laid n rows) k None) (length-append front row) ∙ e) in
+    (h.0, subst (λ (l : List ℕ). s.to ≤ length l) (append_assoc front row (flat_map row_or rows)) h.1)
+
+-- a row that is there stands within the table
+pub row_placed : (table : List ℕ) (begin : ℕ) (spans : List (Option RowSpan)) (h : IsTable table begin spans) (k : ℕ)
+    (s : RowSpan) → get_or spans k None ≡ Some s
+    → (s.from ≤ s.to) × (s.to ≤ length table)
+row_placed table begin spans h k s e =
+    let p = placed_at h.first h.rows k s (ap (λ (l : List (Option RowSpan)). get_or l k None) (sym h.spans_are) ∙ e) in
+    (p.0, subst (λ (l : List ℕ). s.to ≤ length l) (sym h.table_is) p.1)
+
+pub row_found : (table : List ℕ) (spans : List (Option RowSpan)) (k : ℕ) (s : RowSpan) → k < length spans
+    → get_or spans k None ≡ Some s
+    → Some (slice_range table s.from s.to) ≡ get_or (map (row_at table) spans) k None
+row_found table spans k s l e = sym (get_or-map (row_at table) spans k None None l ∙ ap (row_at table) e)
+
+-- what stands at a place of a list, whatever is said of other places
+pub get_or_any : {A : Type 0} (xs : List A) (k : ℕ) (d e : A) → k < length xs → get_or xs k d ≡ get_or xs k e
+get_or_any [] k d e l = absurd (omega (arith, l))
+get_or_any (x ∷ xs) zero d e l = refl
+get_or_any (x ∷ xs) (suc k) d e l = get_or_any xs k d e (omega (arith, l))
+
+-- the span that the code finds
+pub span_there : (table : List ℕ) (spans : List (Option RowSpan)) (passes : List (Option (List ℕ))) (k : ℕ)
+    (o : Option RowSpan) (s : RowSpan)
+    → map (row_at table) spans ≡ passes → k < length passes → o ≡ get_or spans k o → o ≡ Some s
+    → (k < length spans) × (get_or spans k None ≡ Some s)
+span_there table spans passes k o s v l i e =
+    let long = ap (λ (r : List (Option (List ℕ))). length r) v in
+    let many = length-map spans (row_at table) in
+    let within : k < length spans = omega (arith, l, long, many) in
+    (within, get_or_any spans k None o within ∙ sym i ∙ e)

@@ -1,7 +1,7 @@
 //! The rows of masks of a net and a list of its paths.
 
-ghost use Rattle.std.specs.Prelude.{◌≡◌, ◌++◌, ◌∷◌, [], length};
-ghost use Rattle.std.specs.Prelude.{IfOk, OnOk};
+ghost use Rattle.std.specs.Prelude.{◌≡◌, ◌<◌, ◌≤◌, ◌++◌, ◌∷◌, [], Some, None, length};
+ghost use Rattle.std.specs.Prelude.{slice_index_or, slice_range, IfOk, IsSome, OnOk};
 ghost use Rattle.word_rules.specs.WordRules.{begin_spelled};
 ghost use Rattle.path_masks.specs.Masks as spec;
 ghost use Rattle.path_masks.specs.Tables as tables;
@@ -163,6 +163,14 @@ fn put_arc(
     Ok(())
 }
 
+fn part(table: &[u64], from: usize, to: usize) -> &[u64]
+    requires order { from ≤ to }
+    requires within { to ≤ length table.now }
+    ensures { result.now ≡ slice_range table.now from to }
+{
+    &table[from..to]
+}
+
 impl Rows {
     /// How many words the bits have.
     pub fn width(&self) -> u32
@@ -183,5 +191,17 @@ impl Rows {
         ensures { result.now ≡ self.now.begin }
     {
         &self.table[..self.begin]
+    }
+
+    /// The row of the arc, which has one.
+    pub fn pass_row(&self, arc: u32) -> &[u64]
+        requires there { arc < length self.now.passes }
+        requires some { IsSome (slice_index_or self.now.passes arc None) }
+        ensures { Some result.now ≡ slice_index_or self.now.passes arc None }
+    {
+        match self.spans[arc as usize] {
+            Some(span) => part(&self.table, span.from, span.to),
+            None => &[],
+        }
     }
 }
