@@ -10,7 +10,7 @@ use Rattle.code_file.specs.OpItems.{number_bytes, op_bytes}
 use Rattle.code_file.specs.Spelling.{words_bytes, numbers_bytes, ops_bytes, table_bytes, functions_bytes, code_bytes}
 
 -- a plain code with one function: Push 0, Return
-abbrev gives_0 : CodeValue
+abbrev pub gives_0 : CodeValue
 gives_0 = record {
   stamp = 0;
   covered = false;

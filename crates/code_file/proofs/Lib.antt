@@ -1,2 +1,3 @@
 mod FileRows
+mod ReadRows
 pub mod WriteLaws

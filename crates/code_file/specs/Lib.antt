@@ -1,2 +1,3 @@
 pub mod OpItems
 pub mod Spelling
+pub mod Reading

@@ -2,7 +2,9 @@
 
 #![tactic(auto)]
 
+pub mod fault;
 pub mod op_items;
 mod write;
 
+pub use fault::CodeFault;
 pub use write::write_code;

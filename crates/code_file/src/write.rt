@@ -1,11 +1,9 @@
 //! The writer of a code.
 
-ghost use Rattle.std.specs.Prelude.{◌≡◌, ◌++◌, ◌≤◌, ◌∷◌, [], true, length, OnOk, IfOk, Option, None};
-ghost use Rattle.std.specs.List.{All, flat_map};
+ghost use Rattle.std.specs.Prelude.{◌≡◌, ◌++◌, ◌∷◌, [], true, OnOk, IfOk, None};
+ghost use Rattle.std.specs.List.{All};
 ghost use Rattle.code_runs.specs.CodeChecks.{is_number, number_there, code_fault};
-ghost use Rattle.code_runs.specs.Limits.{instruction_limit};
 ghost use Rattle.int_ops.specs.Codes.{type_code};
-ghost use Rattle.gcov_items.specs.Items.{word_bytes, long_bytes};
 ghost use Rattle.code_file.specs.OpItems as item;
 ghost use Rattle.code_file.specs.Spelling as spec;
 
