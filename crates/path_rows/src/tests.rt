@@ -37,6 +37,20 @@ fn net_of(alloc: Global, blocks: u32, ends: &[(u32, u32)]) -> Result<Option<Net>
     }
 }
 
+/// The arcs of a star: block 2 leads to 200 blocks, which lead to block 203.
+fn star_ends(alloc: Global) -> Result<Vec<(u32, u32)>, AllocError> {
+    let mut ends = Vec::new(alloc);
+    ends.push((0, 2))?;
+    for middle in 3..203u32 {
+        ends.push((2, middle))?;
+    }
+    for middle in 3..203u32 {
+        ends.push((middle, 203))?;
+    }
+    ends.push((203, 1))?;
+    Ok(ends)
+}
+
 /// The blocks of each path, with a comma behind each path.
 fn text_of(alloc: Global, paths: &Paths) -> Result<String, Fail> {
     let mut text = String::new(alloc);

@@ -1,6 +1,6 @@
 //! The prime paths of small nets, and of nets with many.
 
-use super::{assert_listed, net_of};
+use super::{assert_listed, net_of, star_ends};
 use crate::list_uncounted;
 use cov_base::NoMemory;
 use prime_paths::Listing;
@@ -40,15 +40,7 @@ fn prime_paths_of_small_nets(rt: HostRuntime) -> Result<(), Fail> {
 
 #[test]
 fn star_has_200_prime_paths(rt: HostRuntime) -> Result<(), Fail> {
-    let mut ends = Vec::new(rt.alloc());
-    ends.push((0u32, 2u32))?;
-    for middle in 3..203u32 {
-        ends.push((2, middle))?;
-    }
-    for middle in 3..203u32 {
-        ends.push((middle, 203))?;
-    }
-    ends.push((203, 1))?;
+    let ends = star_ends(rt.alloc())?;
     match net_of(rt.alloc(), 204, &ends)? {
         Some(net) => match list_uncounted(rt.alloc(), &net, 200) {
             Ok(Listing::All(paths)) => assert_eq!(rt; paths.len(), 200),

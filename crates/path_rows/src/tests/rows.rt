@@ -1,6 +1,6 @@
 //! The rows of masks of small nets, and of a star.
 
-use super::net_of;
+use super::{net_of, star_ends};
 use crate::list_uncounted;
 use cov_base::{Net, NoMemory};
 use path_masks::{Rows, rows_of};
@@ -44,15 +44,7 @@ fn rows_of_a_cycle_and_of_a_loop(rt: HostRuntime) -> Result<(), Fail> {
 
 #[test]
 fn table_of_a_star_has_4413_numbers(rt: HostRuntime) -> Result<(), Fail> {
-    let mut ends = Vec::new(rt.alloc());
-    ends.push((0u32, 2u32))?;
-    for middle in 3..203u32 {
-        ends.push((2, middle))?;
-    }
-    for middle in 3..203u32 {
-        ends.push((middle, 203))?;
-    }
-    ends.push((203, 1))?;
+    let ends = star_ends(rt.alloc())?;
     match net_of(rt.alloc(), 204, &ends)? {
         Some(net) => match rows_for(&rt, &net) {
             Ok(Some(rows)) => {
