@@ -1,0 +1,9 @@
+//! From the bytes of a C source to its pruned graphs, which do what the source means.
+
+#![tactic(auto)]
+
+pub mod graphs;
+#[cfg(test)]
+mod tests;
+
+pub use graphs::{SourceFault, graphs_of};
