@@ -16,7 +16,7 @@ import tempfile
 
 from scratch import best, gcc_syntax, memory, program_in, stack_limit, statements
 
-CRATES = ("cov_base", "int_ops", "c_tokens", "c_tree", "c_grammar", "c_exprs", "c_parser")
+CRATES = ("cov_base", "int_ops", "c_tokens", "c_tree", "c_grammar", "c_syntax", "c_exprs", "c_parser")
 USES = "cov_base c_tokens c_tree c_grammar c_exprs c_parser sqlite_items"
 RUNS = 9
 MOST = 1_048_576
