@@ -19,7 +19,7 @@ from scratch import best, program_in, write
 RUNS = 5
 RATIO = 3.0
 GIVEN_UP = 1.0
-CRATES = ("cov_base", "word_rules", "prime_paths", "path_rows")
+CRATES = ("cov_base", "word_rules", "prime_paths", "path_masks", "path_rows")
 USES = "cov_base prime_paths path_rows"
 
 MAIN_RT = """//! Lists the prime paths of the net in each line of its input, as often as the line says.
