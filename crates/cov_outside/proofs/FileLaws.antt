@@ -1,11 +1,11 @@
 -- How the calls on files join.
-use Rattle.std.proofs.Common.{◌≡◌, ◌≢◌, ℕ, ◌≤◌, ◌+◌, List, [], ◌++◌, length, take, refl, sym, ◌∙◌, ap, subst, append_assoc, append-nil, arith}
+use Rattle.std.proofs.Common.{◌≡◌, ◌≢◌, ℕ, ◌+◌, List, [], ◌++◌, length, take, refl, sym, ◌∙◌, ap, subst, append_assoc, append-nil, arith}
 use Rattle.std.specs.Prelude.{Option, Some, None, Result, Ok, Err, codes}
 use Rattle.std.proofs.lemmas.List.{length-append}
 use Rattle.std.proofs.Math.Seq.{take-add, take-length}
 use Rattle.cov_outside.specs.Outside.{Files, Reads}
 use Rattle.cov_outside.specs.declared.faults.CallFault.{CallFault}
-use Rattle.cov_outside.specs.FileCalls.{Told, Puts, KeepsOthers, Creates, Appends, AppendsAll, Renames, Renamed, Replaced, ReplacesFile, beside}
+use Rattle.cov_outside.specs.FileCalls.{Told, Puts, KeepsOthers, Creates, Appends, AppendsAll, Renames, ReplacesFile, beside}
 use Rattle.cov_outside.proofs.Whole.{rest_from, rest_is}
 
 -- a read after one that took nothing

@@ -1,5 +1,5 @@
 -- Files as the changes that made them.
-use Rattle.std.specs.Prelude.{ℕ, List, [], ◌∷◌, Option, Some, None, option_map, string_bytes, bytes_eq, if◌then◌else◌}
+use Rattle.std.specs.Prelude.{ℕ, List, [], ◌∷◌, Option, None, option_map, string_bytes, bytes_eq, if◌then◌else◌}
 use Rattle.cov_outside.specs.Outside.{Files}
 use Rattle.cov_outside.specs.declared.change_log.Change.{Change}
 

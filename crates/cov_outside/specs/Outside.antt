@@ -1,10 +1,12 @@
 -- What an answer of the outside says: the bytes and files where they are told, and the counts of faults
 -- and of wants of memory.
-use Rattle.std.specs.Prelude.{◌≡◌, ◌⊎◌, ◌↔◌, ◌<◌, ◌≤◌, ◌-◌, ◌^◌, ℕ, List, [], ◌++◌, length, take, drop, Option, Some, None, Result, Ok, Err, Vec, bytes_eq, if◌then◌else◌}
+use Rattle.std.specs.Prelude.{◌≡◌, ◌⊎◌, ◌↔◌, ◌<◌, ◌≤◌, ◌+◌, ◌-◌, ◌^◌, ℕ, List, [], ◌++◌, length, take, drop, Option, Some, None, Result, Ok, Err, Vec, bytes_eq, if◌then◌else◌}
 use Rattle.std.specs.Global.{Global}
 use Rattle.cov_outside.specs.declared.faults.SinkFault.{SinkFault}
 use Rattle.cov_outside.specs.declared.faults.LoadFault.{LoadFault}
 use Rattle.cov_outside.specs.declared.faults.LoadFault.TheVariants as load_fault
+use Rattle.cov_outside.specs.declared.faults.ReadRefusal.{ReadRefusal}
+use Rattle.cov_outside.specs.declared.faults.ReadRefusal.TheVariants as read_refusal
 
 -- The files by name.
 abbrev pub Files : Type 0
@@ -33,6 +35,20 @@ abbrev pub Reads : {E : Type 0} → Option (List ℕ) → Option (List ℕ) → 
 Reads (Some before) after (Ok n) piece = TakesFront before after n piece
 Reads (Some before) after (Err fault) piece = after ≡ Some before
 Reads None after result piece = after ≡ None
+
+-- some of the bytes were taken
+abbrev pub TakesSome : List ℕ → Option (List ℕ) → Type 0
+TakesSome before after = (n : ℕ) × (n ≤ length before) × (after ≡ Some (drop n before))
+
+-- What reading to the end does to the bytes that no read took yet: all of them were read, or the limit and one more byte
+-- were taken where there are more than that; what isn't told stays untold.
+abbrev pub ReadsAll : Option (List ℕ) → Option (List ℕ) → ℕ → Result (Vec ℕ Global) ReadRefusal → Type 0
+ReadsAll (Some before) after limit (Ok bytes) = (bytes.items ≡ before) × (after ≡ Some [])
+ReadsAll (Some before) after limit (Err read_refusal.TooLong) =
+    (limit < length before) × (after ≡ Some (drop (limit + 1) before))
+ReadsAll (Some before) after limit (Err read_refusal.Failed) = TakesSome before after
+ReadsAll (Some before) after limit (Err read_refusal.NoMemory) = TakesSome before after
+ReadsAll None after limit result = after ≡ None
 
 -- what a write does to the bytes written; what isn't told stays untold
 abbrev pub Writes : Option (List ℕ) → Option (List ℕ) → Result ℕ SinkFault → List ℕ → Type 0

@@ -33,6 +33,47 @@ pub enum LoadFault {
     NoMemory,
 }
 
+/// Why bytes weren't read to the end.
+#[derive(Clone, Copy, Debug, PartialEq, Eq)]
+pub enum ReadRefusal {
+    /// A read failed.
+    Failed,
+    /// There are more than the limit.
+    TooLong,
+    /// Memory ran out.
+    NoMemory,
+}
+
+impl From<Failed> for ReadRefusal {
+    ghost use Rattle.cov_outside.specs.declared.faults.ReadRefusal.TheVariants as refusal;
+
+    ghost from_gives = { λ _ refused. refused ≡ refusal.Failed };
+
+    fn from(_: Failed) -> ReadRefusal {
+        ReadRefusal::Failed
+    }
+}
+
+impl From<AllocError> for ReadRefusal {
+    ghost use Rattle.cov_outside.specs.declared.faults.ReadRefusal.TheVariants.{NoMemory};
+
+    ghost from_gives = { λ _ refused. refused ≡ NoMemory };
+
+    fn from(_: AllocError) -> ReadRefusal {
+        ReadRefusal::NoMemory
+    }
+}
+
+impl<T: Drop> From<AllocFailed<T>> for ReadRefusal {
+    ghost use Rattle.cov_outside.specs.declared.faults.ReadRefusal.TheVariants.{NoMemory};
+
+    ghost from_gives = { λ _ refused. refused ≡ NoMemory };
+
+    fn from(_: AllocFailed<T>) -> ReadRefusal {
+        ReadRefusal::NoMemory
+    }
+}
+
 impl From<AllocError> for CallFault {
     ghost use Rattle.cov_outside.specs.declared.faults.CallFault.TheVariants.{NoMemory};
 

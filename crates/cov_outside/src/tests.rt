@@ -2,8 +2,9 @@ use crate::faults::CallFault;
 use crate::told_files::ToldFiles;
 use crate::whole_files::{load_file, replace_file};
 use crate::{
-    DirFolder, Failed, Folder, LoadFault, MemFolder, MemSink, MemSource, Sink, SinkFault, Source,
-    StdErr, StdSink, StdSource, SureFolder, SureSink, SureSource, write_all,
+    DirFolder, Failed, Folder, LoadFault, MemFolder, MemSink, MemSource, ReadRefusal, Sink,
+    SinkFault, Source, StdErr, StdSink, StdSource, SureFolder, SureSink, SureSource, read_all,
+    write_all,
 };
 use std::alloc::{AllocError, Global};
 use std::io::{Read, Write};
@@ -46,6 +47,33 @@ fn a_source_gives_its_bytes_and_then_none(rt: HostRuntime) -> Result<(), Fail> {
         &mut mem,
         &[Err(Failed), Ok("ab"), Err(Failed), Ok("c"), Ok("")],
     );
+    Ok(())
+}
+
+#[test]
+fn a_source_is_read_to_its_end(rt: HostRuntime) -> Result<(), Fail> {
+    let alloc = rt.alloc();
+    // The limit, the call that fails, what is answered and what is left.
+    let rows: [(usize, u64, Result<&[u8], ReadRefusal>, usize); 7] = [
+        (3, 9, Ok(b"abc"), 0),
+        (9000, 9, Ok(b"abc"), 0),
+        (2, 9, Err(ReadRefusal::TooLong), 0),
+        (1, 9, Err(ReadRefusal::TooLong), 1),
+        (0, 9, Err(ReadRefusal::TooLong), 2),
+        (3, 0, Err(ReadRefusal::Failed), 3),
+        (3, 1, Err(ReadRefusal::Failed), 0),
+    ];
+    for (limit, fails, wanted, left) in rows {
+        let mut source = MemSource::new(b"abc".to_vec(alloc)?, calls(alloc, &[fails])?);
+        let got = read_all(alloc, &mut source, limit);
+        assert_eq!(rt; got.as_deref(), wanted.as_deref());
+        let mut rest = [0; 8];
+        assert_eq!(rt; source.read(&mut rest), Ok(left), "after the limit {limit}");
+    }
+    let long = vec![in alloc; b'x'; 10_000]?;
+    let mut source = SureSource::new(long);
+    let bytes = read_all(alloc, &mut source, 10_000).ok().ok_or("no bytes")?;
+    assert_eq!(rt; bytes.len(), 10_000);
     Ok(())
 }
 

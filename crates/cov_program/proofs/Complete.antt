@@ -3,7 +3,7 @@ use Rattle.std.proofs.Common.{◌≡◌, inl, inr, ℕ, List, length, string_byt
 use Rattle.std.specs.Prelude.{Option, Some, None, IfSome}
 use Rattle.cov_program.specs.declared.answers.End.{End}
 use Rattle.cov_program.specs.declared.answers.End.TheVariants as answer
-use Rattle.cov_program.specs.FirstForm.{IsFirstForm}
+use Rattle.first_form.specs.FirstForm.{IsFirstForm}
 use Rattle.cov_outside.specs.Outside.{Files}
 use Rattle.cov_program.specs.declared.answers.UsageFault.TheVariants as usage_fault
 use Rattle.cov_program.specs.declared.answers.SourceFault.TheVariants as source_fault

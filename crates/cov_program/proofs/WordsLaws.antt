@@ -2,7 +2,7 @@
 use Rattle.std.proofs.Common.{◌≡◌, ℕ, ◌≤◌, ◌<◌, List, [], ◌∷◌, length, get_or, sym, ap, ap₂, subst, ◌∙◌, codes, arith}
 use Rattle.std.specs.Prelude.{Option, Some, None, MatchOption}
 use Rattle.cov_program.specs.declared.words.CoverWords.{CoverWords}
-use Rattle.cov_program.specs.CoverText.{stem}
+use Rattle.first_form.specs.CoverText.{stem}
 use Rattle.cov_program.specs.Words.{IsCover, IsSourceName}
 
 -- a list of three members is these three

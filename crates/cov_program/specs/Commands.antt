@@ -1,5 +1,5 @@
 -- The commands, and what each does: a new one brings an equation to each definition here, and no clause of the top call changes.
-use Rattle.std.specs.Prelude.{◌≡◌, ℕ, List, Option, Some, None}
+use Rattle.std.specs.Prelude.{ℕ, List, Option, Some, None}
 use Rattle.cov_outside.specs.Outside.{Files}
 use Rattle.cov_program.specs.declared.answers.End.{End}
 use Rattle.cov_program.specs.Words.{IsCover}

@@ -8,8 +8,8 @@ use Rattle.cov_program.specs.declared.answers.End.{End}
 use Rattle.cov_program.specs.declared.answers.End.TheVariants as answer
 use Rattle.cov_program.specs.declared.answers.UsageFault.TheVariants as usage_fault
 use Rattle.cov_program.specs.declared.answers.SourceFault.TheVariants as source_fault
-use Rattle.cov_program.specs.FirstForm.{Form, IsFirstForm}
-use Rattle.cov_program.specs.CoverText.{IsCoverText}
+use Rattle.first_form.specs.FirstForm.{Form, IsFirstForm}
+use Rattle.first_form.specs.CoverText.{IsCoverText}
 use Rattle.cov_program.specs.Answers.{IsFront}
 
 -- The file is there and within its limit.

@@ -1,21 +1,14 @@
 -- What the steps of `cover` say.
-use Rattle.std.specs.Prelude.{◌≡◌, ℕ, List, ◌++◌, length, replicate, Option, Some, None, Result, Ok, Err, Vec, string_bytes, if◌then◌else◌}
+use Rattle.std.specs.Prelude.{◌≡◌, ℕ, List, ◌++◌, Option, Some, None, Result, Ok, Err, Vec, string_bytes}
 use Rattle.std.specs.Global.{Global}
-use Rattle.cov_base.specs.Limits.{output_limit, default_turns}
 use Rattle.cov_outside.specs.Outside.{Files}
 use Rattle.cov_program.specs.declared.answers.End.{End}
 use Rattle.cov_program.specs.declared.answers.End.TheVariants as answer
 use Rattle.cov_program.specs.declared.answers.UsageFault.TheVariants as usage_fault
 use Rattle.cov_program.specs.declared.answers.SourceFault.TheVariants as source_fault
-use Rattle.cov_program.specs.declared.form.Form.{Form}
-use Rattle.cov_program.specs.FirstForm.{Form as FormValue, IsFirstForm}
-use Rattle.cov_program.specs.FormView.{form_of}
-use Rattle.cov_program.specs.Outcome.{Outcome}
-use Rattle.cov_program.specs.Graph.{Block}
-use Rattle.cov_program.specs.Nets.{net_of}
-use Rattle.cov_program.specs.WalkRun.{WalkRun}
-use Rattle.cov_program.specs.Walked.{counters_of}
-use Rattle.cov_program.specs.CoverText.{is_closed}
+use Rattle.first_form.specs.FirstForm.{Form, IsFirstForm}
+use Rattle.first_form.specs.Graph.{Block}
+use Rattle.first_form.specs.Steps.{IsGraphOf}
 use Rattle.cov_program.specs.Answers.{IsFront}
 use Rattle.cov_program.specs.Cover.{IsLoaded, IsOver, IsMissing, IsTooLong, IsFormless, IsCovering}
 
@@ -31,17 +24,17 @@ LoadsFile files name limit (Err answer.WriteFault) = ⊥
 LoadsFile files name limit (Err answer.FolderFault) = Unit {0}
 LoadsFile files name limit (Err answer.NoMemory) = Unit {0}
 
--- what reading a source says of its form
-abbrev pub ReadsForm : List ℕ → Result Form End → Type 0
-ReadsForm source (Ok form) = IsFirstForm source (form_of form)
-ReadsForm source (Err answer.Done) = ⊥
-ReadsForm source (Err (answer.Usage usage_fault.NotBuilt)) = ⊥
-ReadsForm source (Err (answer.SourceRefused source_fault.NotFirst)) = (form : FormValue) → IsFirstForm source form → ⊥
-ReadsForm source (Err (answer.Missing name)) = ⊥
-ReadsForm source (Err (answer.TooLong name)) = ⊥
-ReadsForm source (Err answer.WriteFault) = ⊥
-ReadsForm source (Err answer.FolderFault) = ⊥
-ReadsForm source (Err answer.NoMemory) = Unit {0}
+-- what compiling a source says of its form
+abbrev pub Compiles : List ℕ → Result (List Block) End → Type 0
+Compiles source (Ok unit) = IsGraphOf source unit
+Compiles source (Err answer.Done) = ⊥
+Compiles source (Err (answer.Usage usage_fault.NotBuilt)) = ⊥
+Compiles source (Err (answer.SourceRefused source_fault.NotFirst)) = (form : Form) → IsFirstForm source form → ⊥
+Compiles source (Err (answer.Missing name)) = ⊥
+Compiles source (Err (answer.TooLong name)) = ⊥
+Compiles source (Err answer.WriteFault) = ⊥
+Compiles source (Err answer.FolderFault) = ⊥
+Compiles source (Err answer.NoMemory) = Unit {0}
 
 -- what the steps up to the text say of the files
 abbrev pub Prepares : Files → List ℕ → List ℕ → Result (Vec ℕ Global) End → Type 0
@@ -65,21 +58,6 @@ IsEarly (answer.TooLong name) = Unit {0}
 IsEarly answer.WriteFault = ⊥
 IsEarly answer.FolderFault = Unit {0}
 IsEarly answer.NoMemory = Unit {0}
-
--- the counters of a closed run, and as many zeros for any other
-abbrev pub closed_counters : Outcome → List ℕ → List ℕ
-closed_counters outcome counters = if is_closed outcome then counters else replicate (length counters) 0
-
--- how many closed runs a run makes
-abbrev pub closed_runs : Outcome → ℕ
-closed_runs outcome = if is_closed outcome then 1 else 0
-
--- The graph's walk run on the input, with the turns of a run where none are given, has this output and outcome; the counters are those of
--- its walk where it is closed.
-pub record Ran (graph : List Block) (input output : List ℕ) (outcome : Outcome) (counters : List ℕ) : Type 0 where
-  pub walk : List ℕ
-  pub run : WalkRun output_limit graph input default_turns (record { output = output; outcome = outcome; walk = walk })
-  pub counted : counters ≡ closed_counters outcome (counters_of (net_of graph).arcs walk)
 
 -- what writing the text of `cover` says of the output: all of it where it is done, else a front
 abbrev pub WritesText : Option (List ℕ) → Option (List ℕ) → List ℕ → End → Type 0

@@ -9,21 +9,19 @@ ghost use Rattle.std.specs.Prelude.{
   IfSome,
   IsErrOf,
 };
+ghost use Rattle.cov_base.specs.Limits.{source_limit};
 ghost use Rattle.cov_outside.specs.Outside.{HasCause};
 ghost use Rattle.cov_program.specs.Answers.{IsUsage};
 ghost use Rattle.cov_program.specs.Cover.{Covers, HasCoverReason, IsCoverUnwritten};
-ghost use Rattle.cov_program.specs.CoverText.{stem};
+ghost use Rattle.first_form.specs.CoverText.{stem};
 ghost use Rattle.cov_program.specs.Words.{IsSourceName};
-ghost use Rattle.cov_program.specs.Steps.{LoadsFile, ReadsForm, Prepares, IsEarly, WritesText};
+ghost use Rattle.cov_program.specs.Steps.{LoadsFile, Compiles, Prepares, IsEarly, WritesText};
 
 use crate::answers::{End, SourceFault};
-use crate::form::Form;
-use crate::reader::read_form;
-use crate::rendering::{count, text};
-use crate::unit::compile;
 use crate::words::CoverWords;
 use cov_base::{FILE_LIMIT, SOURCE_LIMIT};
 use cov_outside::{Folder, LoadFault, Sink, SinkFault, write_all};
+use first_form::{Names, Unit, compile_source, cover_text};
 use std::alloc::Global;
 
 /// Covers the source on the input of these names: makes the text and writes it.
@@ -49,15 +47,14 @@ pub fn cover<K: Sink, F: Folder>(
     ensures folder_fault { HasCause (F.faults folder.old) (F.faults folder.new)
         (result ≡ End.FolderFault) }
 {
-    match cover_text(alloc, names, folder) {
+    match made_text(alloc, names, folder) {
         Ok(text) => write(out, &text),
         Err(end) => end,
     }
 }
 
-/// Loads the source, reads its form and compiles it, loads the input, runs the source on it, counts
-/// the lines, and makes the text.
-fn cover_text<F: Folder>(
+/// Loads the source and compiles it, loads the input, and makes the text of its run and counts.
+fn made_text<F: Folder>(
     alloc: Global,
     names: CoverWords<'_>,
     folder: &mut F,
@@ -72,12 +69,13 @@ fn cover_text<F: Folder>(
         (IsErrOf result End.FolderFault) }
 {
     let source = load(alloc, folder, names.source, SOURCE_LIMIT)?;
-    let form = read(alloc, &source)?;
-    let unit = compile(alloc, &form)?;
+    let unit = compile(alloc, &source)?;
     let input = load(alloc, folder, names.input, FILE_LIMIT)?;
-    let run = unit.run(alloc, &input)?;
-    let counts = count(alloc, unit.net(), &run, &source)?;
-    Ok(text(alloc, names, &source, &run, &counts)?)
+    let called = Names {
+        stem: names.stem,
+        input: names.input,
+    };
+    Ok(cover_text(alloc, &unit, called, &source, &input)?)
 }
 
 /// The bytes of a file that is there and no longer than the limit.
@@ -98,14 +96,15 @@ fn load<F: Folder>(alloc: Global, folder: &mut F, name: &str, limit: usize) -> R
     }
 }
 
-/// The form of a source that is of the first form.
-fn read(alloc: Global, source: &[u8]) -> Result<Form, End>
-    ensures reads { ReadsForm source.now result }
+/// The unit of a source that is of the first form.
+fn compile(alloc: Global, source: &[u8]) -> Result<Unit, End>
+    requires { length source.now ≤ source_limit }
+    ensures compiles { Compiles source.now result }
     ensures early { IfErr result IsEarly }
     ensures folder { IfErr result (λ end. end ≡ End.FolderFault → ⊥) }
 {
-    match read_form(alloc, source)? {
-        Some(form) => Ok(form),
+    match compile_source(alloc, source)? {
+        Some(unit) => Ok(unit),
         None => Err(End::SourceRefused(SourceFault::NotFirst)),
     }
 }

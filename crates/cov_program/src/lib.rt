@@ -4,21 +4,7 @@
 mod answers;
 mod command;
 mod complaints;
-mod counts;
 mod cover;
-mod form;
-mod graph;
-mod lowering;
-mod nets;
-mod number;
-mod outcome;
-mod pieces;
-mod plan;
-mod reader;
-mod rendering;
-mod texts;
-mod unit;
-mod walker;
 mod words;
 
 pub use answers::{End, SourceFault, UsageFault, status_of};

@@ -1,7 +1,7 @@
 //! The words of a command.
 
 ghost use Rattle.std.specs.Prelude.{◌≡◌, ℕ, List, MatchOption, map, string_bytes};
-ghost use Rattle.cov_program.specs.CoverText.{stem};
+ghost use Rattle.first_form.specs.CoverText.{stem};
 ghost use Rattle.cov_program.specs.Words.{IsCover, IsSourceName};
 
 /// The words `cover SRC IN`.

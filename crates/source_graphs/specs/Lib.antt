@@ -1,1 +1,2 @@
 pub mod SourceGraphs
+pub mod FaultWords

@@ -2,6 +2,7 @@
 
 #![tactic(auto)]
 
+mod fault_words;
 pub mod graphs;
 #[cfg(test)]
 mod tests;

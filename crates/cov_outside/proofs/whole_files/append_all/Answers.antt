@@ -1,8 +1,8 @@
 -- The pieces put one after another are all the bytes.
-use Rattle.std.proofs.Common.{rules, subst, ◌∙◌, inr, take, arith}
+use Rattle.std.proofs.Common.{subst, ◌∙◌, take}
 use Rattle.std.specs.Prelude.{Ok, Err}
 use Rattle.std.proofs.lemmas.Result.{err_from_is_err_and}
-use Rattle.cov_outside.specs.FileCalls.{Appends, AppendsAll, Told}
+use Rattle.cov_outside.specs.FileCalls.{Appends, Told}
 use Rattle.cov_outside.proofs.Causes.{HasCause-join}
 use Rattle.cov_outside.proofs.Whole.{fits_more, rest_from}
 use Rattle.cov_outside.proofs.FileLaws.{Told-join, AppendsAll-more, AppendsAll-fault}

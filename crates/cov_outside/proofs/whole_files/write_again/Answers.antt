@@ -1,7 +1,7 @@
 -- What a write put after interrupted ones is what they put together.
 use Rattle.std.proofs.Common.{rules, subst, ◌∙◌, inr}
 use Rattle.std.specs.Prelude.{Err}
-use Rattle.cov_outside.specs.FileCalls.{Appends, IsCallFault, Told}
+use Rattle.cov_outside.specs.FileCalls.{Appends, Told}
 use Rattle.cov_outside.specs.declared.faults.CallFault.TheVariants.{Interrupted}
 use Rattle.cov_outside.proofs.Causes.{HasCause-join}
 use Rattle.cov_outside.proofs.FileLaws.{Told-join, Appends-again}

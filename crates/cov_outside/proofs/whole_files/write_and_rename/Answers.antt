@@ -1,9 +1,7 @@
 -- The new file is written whole before it takes the name.
-use Rattle.std.proofs.Common.{rules, subst, sym, ◌∙◌}
-use Rattle.std.specs.Prelude.{Ok, Err}
+use Rattle.std.proofs.Common.{subst, sym}
 use Rattle.std.proofs.lemmas.Result.{err_from_is_err_and}
 use Rattle.cov_outside.specs.FileCalls.{KeepsOthers, Puts, Told}
-use Rattle.cov_outside.specs.declared.faults.CallFault.{CallFault}
 use Rattle.cov_outside.proofs.FileLaws.{Told-join, Told-weaker, created_whole, created_fault, renamed_whole, puts_others}
 use Rattle.cov_outside.proofs.whole_files.write_and_rename.Goals as goal
 

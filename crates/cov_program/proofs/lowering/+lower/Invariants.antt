@@ -1,7 +1,0 @@
-use Rattle.std.proofs.Common.{◌≡◌, drop}
-use Rattle.cov_program.specs.FormView.{body_of}
-use Rattle.cov_program.specs.Plan.{lowered}
-use Rattle.cov_program.proofs.lowering.+lower.Given as goal
-
-abbrev pub invariant-lower_items-loop-item : goal.invariant-lower_items-loop-item
-invariant-lower_items-loop-item l = lowered (body_of (drop l.item-index l.items)) l.plan ≡ lowered (body_of l.items) l.fn.plan
