@@ -1,0 +1,12 @@
+pub mod Putting
+pub mod Alive
+pub mod CaseNumbers
+pub mod DeadCode
+pub mod LiveCode
+pub mod NamedBlocks
+pub mod AheadBlocks
+pub mod ReachedBlocks
+pub mod PrunedGraphs
+pub mod OrderlySources
+pub mod SourceLimits
+pub mod OrderlyRows
