@@ -1,0 +1,4 @@
+pub mod TableLaws
+pub mod DepthLaws
+pub mod PassLaws
+pub mod FieldLaws
