@@ -1,3 +1,4 @@
 pub mod OpItems
 pub mod Spelling
 pub mod Reading
+pub mod Checking

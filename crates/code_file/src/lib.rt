@@ -1,10 +1,12 @@
-//! The file of a code.
+//! The file of a code, and codes that break no rule.
 
 #![tactic(auto)]
 
+pub mod checked;
 pub mod fault;
 pub mod op_items;
 mod write;
 
+pub use checked::Checked;
 pub use fault::CodeFault;
 pub use write::write_code;
