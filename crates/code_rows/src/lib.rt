@@ -1,0 +1,5 @@
+//! Tests of codes in memory and of their files.
+#![tactic(auto)]
+
+#[cfg(test)]
+mod tests;
