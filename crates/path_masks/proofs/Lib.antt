@@ -6,4 +6,5 @@ pub mod FitLaws
 pub mod TestLaws
 pub mod ChunkLaws
 pub mod TableLaws
+pub mod NumberLaws
 mod Worked

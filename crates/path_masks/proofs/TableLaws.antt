@@ -7,6 +7,8 @@ use Rattle.std.proofs.Common.{slice_range, mul-suc, add_comm}
 use Rattle.std.proofs.Math.Seq.{drop-append_seam}
 use Rattle.std.proofs.lemmas.Bool.{cond-true, cond-false}
 use Rattle.std.proofs.lemmas.List.{get_or-map, length-map, drop_more, take-append-le}
+use Rattle.cov_base.proofs.NetLaws.{HasShape-from_IsNet}
+use Rattle.cov_base.specs.Net.{NetValue, IsNet}
 use Rattle.cov_base.specs.declared.net.FlowArc.{FlowArc}
 use Rattle.word_rules.specs.WordRules.{BeginEntry, PassEntry, begin_spelled, pass_spelled}
 use Rattle.prime_paths.specs.Lister.{numbers}
@@ -263,3 +265,16 @@ span_there table spans passes k o s v l i e =
     let many = length-map spans (row_at table) in
     let within : k < length spans = omega (arith, l, long, many) in
     (within, get_or_any spans k None o within ∙ sym i ∙ e)
+
+laid_many : (at : ℕ) (rows : List (Option (List ℕ))) → length (laid at rows) ≡ length rows
+laid_many at [] = refl
+laid_many at (row ∷ rows) = ap suc (laid_many (at + length (row_or row)) rows)
+
+-- there are no more rows than a net has arcs
+pub spans_few : (net : NetValue) (ps : List (List ℕ)) (begin : ℕ) (spans : List (Option RowSpan)) → IsNet net
+    → spans ≡ laid begin (map (row_of ps) net.arcs) → length spans < 4294967296
+spans_few net ps begin spans is e =
+    let few = (HasShape-from_IsNet net is).few in
+    let many = ap (λ (l : List (Option RowSpan)). length l) e ∙ laid_many begin (map (row_of ps) net.arcs)
+    ∙ length-map net.arcs (row_of ps) in
+    omega (arith, few, many)

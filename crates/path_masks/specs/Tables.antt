@@ -1,6 +1,6 @@
 -- The table of the rows of a net and a list of its paths.
-use Rattle.std.specs.Prelude.{◌≡◌, ℕ, ◌+◌, cond, List, [], ◌∷◌, ◌++◌, length, map, take, slice_range, Option}
-use Rattle.std.specs.Prelude.{Some, None, option_map}
+use Rattle.std.specs.Prelude.{◌≡◌, ℕ, suc, ◌+◌, cond, List, [], ◌∷◌, ◌++◌, length, map, take, slice_range, Option}
+use Rattle.std.specs.Prelude.{Some, None, option_map, get_or}
 use Rattle.std.specs.List.{list_any, flat_map}
 use Rattle.cov_base.specs.declared.net.FlowArc.{FlowArc}
 use Rattle.word_rules.specs.WordRules.{BeginEntry, PassEntry, begin_spelled, pass_spelled}
@@ -45,6 +45,20 @@ pub record AreRows (arcs : List FlowArc) (ps : List (List ℕ)) (rows : RowsValu
   pub width : rows.width ≡ width ps
   pub begin : rows.begin ≡ begin_spelled (row_of_start 2 ps)
   pub passes : rows.passes ≡ map (row_of ps) arcs
+
+-- how many rows are there
+abbrev pub rows_in : {A : Type 0} → List (Option A) → ℕ
+rows_in [] = 0
+rows_in (None ∷ rows) = rows_in rows
+rows_in (Some row ∷ rows) = suc (rows_in rows)
+
+-- the number of the row at a place, where one stands there: how many rows stand before it
+abbrev pub number_at : {A : Type 0} → List (Option A) → ℕ → Option ℕ
+number_at rows place = option_map (λ row. rows_in (take place rows)) (get_or rows place None)
+
+-- the number of the row of each place, if it has one
+abbrev pub AreNumbers : {A : Type 0} → List (Option A) → List (Option ℕ) → Type 0
+AreNumbers rows numbers = (place : ℕ) → get_or numbers place None ≡ number_at rows place
 
 -- a row, or nothing
 abbrev pub row_or : Option (List ℕ) → List ℕ

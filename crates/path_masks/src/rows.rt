@@ -1,6 +1,6 @@
 //! The rows of masks of a net and a list of its paths.
 
-ghost use Rattle.std.specs.Prelude.{◌≡◌, ◌<◌, ◌≤◌, ◌++◌, ◌∷◌, [], Some, None, length};
+ghost use Rattle.std.specs.Prelude.{◌≡◌, ◌<◌, ◌≤◌, ◌^◌, ◌++◌, ◌∷◌, [], Some, None, length};
 ghost use Rattle.std.specs.Prelude.{slice_index_or, slice_range, IfOk, IsSome, OnOk};
 ghost use Rattle.word_rules.specs.WordRules.{begin_spelled};
 ghost use Rattle.path_masks.specs.Masks as spec;
@@ -30,16 +30,19 @@ pub struct Rows {
     table: Vec<u64>,
     begin: usize,
     spans: Vec<Option<RowSpan>>,
+    numbers: Vec<Option<u32>>,
 }
 
 impl Model for Rows {
-    ghost use Rattle.path_masks.specs.Tables.{RowsValue, rows_view, IsTable};
+    ghost use Rattle.std.specs.Prelude.{◌<◌, ◌^◌, length};
+    ghost use Rattle.path_masks.specs.Tables.{RowsValue, rows_view, IsTable, AreNumbers};
 
     ghost Value = { RowsValue };
 
     ghost view = { λ r. rows_view r.width r.table.items r.begin r.spans.items };
 
-    ghost invariant = { λ r. IsTable r.table.items r.begin r.spans.items };
+    ghost invariant = { λ r. IsTable r.table.items r.begin r.spans.items
+        × AreNumbers r.spans.items r.numbers.items × (length r.spans.items < 2 ^ 32) };
 }
 
 /// The rows of the net and these paths.
@@ -53,11 +56,13 @@ pub fn rows_of(alloc: Global, net: &Net, paths: &Paths) -> Result<Rows, NoMemory
     for arc in net.arcs() {
         put_arc(alloc, paths, arc, &mut table, &mut spans)?;
     }
+    let numbers = numbers_of(alloc, &spans)?;
     Ok(Rows {
         width: width(paths),
         table,
         begin,
         spans,
+        numbers,
     })
 }
 
@@ -163,6 +168,25 @@ fn put_arc(
     Ok(())
 }
 
+/// The numbers of the rows that are there, counted from 0.
+fn numbers_of(alloc: Global, spans: &[Option<RowSpan>]) -> Result<Vec<Option<u32>>, AllocError>
+    requires { length spans.now < 2 ^ 32 }
+    ensures { IfOk result (λ v. tables.AreNumbers spans.now v.items) }
+{
+    let mut numbers = Vec::new(alloc);
+    let mut next = 0;
+    for span in spans {
+        match span {
+            Some(_) => {
+                numbers.push(Some(next))?;
+                next += 1;
+            }
+            None => numbers.push(None)?,
+        }
+    }
+    Ok(numbers)
+}
+
 fn part(table: &[u64], from: usize, to: usize) -> &[u64]
     requires order { from ≤ to }
     requires within { to ≤ length table.now }
@@ -202,6 +226,23 @@ impl Rows {
         match self.spans[arc as usize] {
             Some(span) => part(&self.table, span.from, span.to),
             None => &[],
+        }
+    }
+
+    /// How many arcs have a row.
+    pub fn count(&self) -> u32
+        ensures { result ≡ tables.rows_in self.now.passes }
+    {
+        self.spans.iter().filter(|span| span.is_some()).count() as u32
+    }
+
+    /// The number of the arc's row, counted from 0 in the order of arcs; none where it has no row.
+    pub fn row_number(&self, arc: u32) -> Option<u32>
+        ensures { result ≡ tables.number_at self.now.passes arc }
+    {
+        match self.numbers.get(arc as usize) {
+            Some(number) => *number,
+            None => None,
         }
     }
 }

@@ -8,7 +8,7 @@ part-requires-clause-order c =
     let there = span_there c.self.inside.table.items c.self.inside.spans.items c.args.self.now.passes c.args.arc
     c.index.result.now c.in-Some.span
     (ap (λ (r : RowsValue). r.passes) c.self.view_is) c.requires.there c.index.ensures c.in-Some.is in
-    (row_placed c.self.inside.table.items c.self.inside.begin c.self.inside.spans.items c.self.invariant c.args.arc
+    (row_placed c.self.inside.table.items c.self.inside.begin c.self.inside.spans.items c.self.invariant.0 c.args.arc
     c.in-Some.span there.1).0
 
 pub part-requires-clause-within : goal.part-requires-clause-within
@@ -17,7 +17,7 @@ part-requires-clause-within c =
     c.index.result.now c.in-Some.span
     (ap (λ (r : RowsValue). r.passes) c.self.view_is) c.requires.there c.index.ensures c.in-Some.is in
     subst (λ (l : List ℕ). c.in-Some.span.to ≤ length l) (sym c.deref.ensures.value)
-    (row_placed c.self.inside.table.items c.self.inside.begin c.self.inside.spans.items c.self.invariant c.args.arc
+    (row_placed c.self.inside.table.items c.self.inside.begin c.self.inside.spans.items c.self.invariant.0 c.args.arc
     c.in-Some.span there.1).1
 
 pub returns-in-Some : goal.returns-in-Some
