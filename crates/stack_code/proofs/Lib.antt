@@ -16,3 +16,8 @@ pub mod Sizes
 pub mod ArcMarks
 pub mod Deep
 pub mod Sounding
+pub mod NumberLaws
+pub mod PassLaws
+pub mod TableFits
+pub mod CoveredPasses
+mod EmitRows

@@ -1,11 +1,12 @@
 -- What the layers above cite of the code of a unit: it runs as the unit does, and its instructions keep the rules.
-use Rattle.std.specs.Prelude.{◌≡◌, ◌≤◌, ℕ, Bool, length, List, [], Some, None, slice_get}
-use Rattle.cov_base.specs.Net.{NetValue}
+use Rattle.std.specs.Prelude.{◌≡◌, ◌≤◌, ℕ, Bool, true, false, length, List, [], Some, None, slice_get}
 use Rattle.stack_ops.specs.Code.{FunctionValue, CodeValue}
 use Rattle.stack_ops.specs.declared.operation.Op.{Op}
 use Rattle.code_runs.specs.Checks.{broken}
+use Rattle.code_runs.specs.CodeChecks.{code_fault}
 use Rattle.code_runs.specs.CodeRun.{Ran, CodeRun}
 use Rattle.code_runs.specs.Counts.{sizes}
+use Rattle.code_runs.specs.Limits.{number_limit}
 use Rattle.code_runs.specs.Sound.{Sound}
 use Rattle.flow_graph.specs.Graph.{Graph, GraphUnit}
 use Rattle.flow_graph.specs.Nets.{size_of}
@@ -16,9 +17,11 @@ use Rattle.stack_code.specs.Agreement.{Agrees}
 use Rattle.stack_code.specs.Checked.{IsUnitCode, Marks}
 use Rattle.stack_code.specs.Deepest.{graph_depth}
 use Rattle.stack_code.specs.Emits.{LaidOut, AreMarks, Emits}
+use Rattle.stack_code.specs.Fitting.{FitsCode}
 use Rattle.stack_code.specs.Laying.{starts, graph_code}
-use Rattle.stack_code.specs.Modes.{ShapeValue, HasPlan, covered_marks, unit_marks}
+use Rattle.stack_code.specs.Modes.{ShapeValue, IsShape, covered_marks, shape_of, unit_marks}
 use Rattle.stack_code.specs.Orderly.{IsOrderly, IsDeepEnough, IsOrderlyUnit}
+use Rattle.stack_code.specs.UnitCode.{passes_in, total, unit_code}
 
 -- each graph of a unit is well made
 abbrev pub AreWellMade : GraphUnit → Type 0
@@ -70,15 +73,25 @@ abbrev pub LaidCodeIsShort : Type 0
 LaidCodeIsShort = (marks : ℕ → ℕ → ℕ → List Op) (u : GraphUnit) (c : CodeValue) → IsUnitCode marks u c
     → AreArcMarks marks → sizes c.functions ≤ size_of u
 
+-- each shape by which a code counts is one of its net; a code that counts nothing has none
+abbrev pub AreShapesOf : Bool → List ShapeValue → Type 0
+AreShapesOf covered shapes = (i : ℕ) (s : ShapeValue) → shape_of covered shapes i ≡ Some s → IsShape s
+
 -- What stands on arcs in the two modes is such marks.
 abbrev pub ModesOnlyMark : Type 0
-ModesOnlyMark = (covered : Bool) (shapes : List ShapeValue)
-    → ((i : ℕ) (s : ShapeValue) → slice_get shapes i ≡ Some s → HasPlan s) → AreArcMarks (unit_marks covered shapes)
+ModesOnlyMark =
+    (covered : Bool) (shapes : List ShapeValue) → AreShapesOf covered shapes → AreArcMarks (unit_marks covered shapes)
 
--- Where a function has as many counters as its plan, its marks name counters that are there.
-abbrev pub CountersAreThere : Type 0
-CountersAreThere = (f : FunctionValue) (net : NetValue) (plan : List ℕ) → length plan ≡ f.counters → (a b : ℕ)
-    → Marks f (covered_marks net plan a b)
+-- a function has the counters, the paths and the rows of a shape
+pub record CountsBy (shape : ShapeValue) (f : FunctionValue) : Type 0 where
+  pub counters : f.counters ≡ length shape.plan
+  pub paths : f.paths ≡ shape.paths
+  pub passes : f.passes ≡ passes_in shape.rows
+
+-- Where a function has the counters and rows of its shape, its marks name counters and rows that are there.
+abbrev pub MarksAreThere : Type 0
+MarksAreThere = (shape : ShapeValue) (f : FunctionValue) → IsShape shape → CountsBy shape f → (a b : ℕ)
+    → Marks f (covered_marks shape a b)
 
 -- the counted depth of an orderly graph is enough for it, and within the limit
 pub record IsCounted (u : GraphUnit) (g : Graph) (orderly : IsOrderly u g) : Type 0 where
@@ -100,3 +113,14 @@ pub record SuitsUnit (marks : ℕ → ℕ → ℕ → List Op) (u : GraphUnit) (
 abbrev pub LaidCodeIsSound : Type 0
 LaidCodeIsSound = (marks : ℕ → ℕ → ℕ → List Op) (u : GraphUnit) (c : CodeValue) → IsUnitCode marks u c
     → IsOrderlyUnit u → SuitsUnit marks u c → Sound c
+
+-- So the code of an orderly unit within the limits breaks no rule, where it counts nothing.
+abbrev pub PlainCodePasses : Type 0
+PlainCodePasses = (u : GraphUnit) (shapes : List ShapeValue) (stamp : ℕ) → IsOrderlyUnit u → FitsCode u
+    → code_fault (unit_code false u shapes stamp) ≡ None
+
+-- And where it counts by shapes of the nets, and the counters and path words of its functions are within their limit.
+abbrev pub CoveredCodePasses : Type 0
+CoveredCodePasses = (u : GraphUnit) (shapes : List ShapeValue) (stamp : ℕ) → IsOrderlyUnit u → FitsCode u
+    → AreShapesOf true shapes → total (unit_code true u shapes stamp).functions ≤ number_limit
+    → code_fault (unit_code true u shapes stamp) ≡ None

@@ -2,7 +2,9 @@ pub mod Agreement
 pub mod Checked
 pub mod Deepest
 pub mod Emits
+pub mod Fitting
 pub mod Laws
 pub mod Laying
 pub mod Modes
 pub mod Orderly
+pub mod UnitCode

@@ -4,5 +4,7 @@
 #![tactic(auto)]
 
 pub mod laws;
+pub mod shape;
 
 pub use laws::emission;
+pub use shape::{EmitFault, Mode, Shape};

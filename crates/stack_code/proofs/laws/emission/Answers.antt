@@ -1,8 +1,10 @@
 use Rattle.stack_code.proofs.Deep.{counted_enough}
 use Rattle.stack_code.proofs.Followed.{emitted_follows, laid_emits, laid_passes}
-use Rattle.stack_code.proofs.ArcMarks.{modes_mark, counters_there}
+use Rattle.stack_code.proofs.ArcMarks.{modes_mark, marks_there}
 use Rattle.stack_code.proofs.LaidLaws.{laid_out}
 use Rattle.stack_code.proofs.Sounding.{laid_sound}
+use Rattle.stack_code.proofs.CoveredPasses.{covered_passes}
+use Rattle.stack_code.proofs.PassLaws.{plain_passes}
 use Rattle.stack_code.proofs.Sizes.{laid_short}
 use Rattle.stack_code.proofs.laws.emission.Goals as goal
 
@@ -24,11 +26,17 @@ returns-clause-short c = laid_short
 pub returns-clause-modes : goal.returns-clause-modes
 returns-clause-modes c = modes_mark
 
-pub returns-clause-counters : goal.returns-clause-counters
-returns-clause-counters c = counters_there
+pub returns-clause-there : goal.returns-clause-there
+returns-clause-there c = marks_there
 
 pub returns-clause-depth : goal.returns-clause-depth
 returns-clause-depth c = counted_enough
 
 pub returns-clause-sound : goal.returns-clause-sound
 returns-clause-sound c = laid_sound
+
+pub returns-clause-plain : goal.returns-clause-plain
+returns-clause-plain c = plain_passes
+
+pub returns-clause-covered : goal.returns-clause-covered
+returns-clause-covered c = covered_passes
