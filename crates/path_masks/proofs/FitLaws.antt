@@ -54,7 +54,7 @@ use Rattle.prime_paths.proofs.WaysLaws.{all_among, any_among, among_any, ends_in
 use Rattle.path_masks.specs.Masks.{AreFit}
 
 -- an arc that enters a block behind block 2 is real and leaves a block from 2 up
-real_arc : (arc : FlowArc) → is_misplaced arc ≡ false → 2 ≤ arc.to → is_real arc.kind ≡ true
+pub real_arc : (arc : FlowArc) → is_misplaced arc ≡ false → 2 ≤ arc.to → is_real arc.kind ≡ true
 real_arc arc e l = go (is_real arc.kind) (arc.to == 1) (ne_eqb arc.to 1 (λ s. omega (arith, s, l))) e
   where
     go : (r o : Bool) → o ≡ false → (not r && not o) ≡ false → r ≡ true
@@ -70,7 +70,7 @@ not_entry arc e o z = o (eqb-true arc.to 2 (go (arc.from == 0) (arc.to == 2) (eq
     go true false x y = absurd (let never : true ≡ false = y in cc)
     go false b x y = absurd (let never : false ≡ true = x in cc)
 
-not_exit : (n : ℕ) (arc : FlowArc) → is_outside n arc ≡ false → arc.from ≢ 1
+pub not_exit : (n : ℕ) (arc : FlowArc) → is_outside n arc ≡ false → arc.from ≢ 1
 not_exit n arc e z = both_ways (arc.from == 1) (or_parts _ _ e).1 (eq-eqb arc.from 1 z)
 
 -- a block behind block 2 is led to from a block from 2 up

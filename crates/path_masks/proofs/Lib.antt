@@ -7,4 +7,6 @@ pub mod TestLaws
 pub mod ChunkLaws
 pub mod TableLaws
 pub mod NumberLaws
+pub mod NetWalkLaws
 mod Worked
+mod WorkedWalks

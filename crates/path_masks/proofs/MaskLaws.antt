@@ -84,7 +84,16 @@ use Rattle.path_masks.specs.Masks.{
   StandFor,
 }
 use Rattle.path_masks.proofs.WalkBits.{under_first, contains_first, under_more, seen_more, not_under, contains_still}
-use Rattle.path_masks.proofs.WordLaws.{bit_of_word, word_and, word_or, word_same, get_numbers, EachWord, each_word}
+use Rattle.path_masks.proofs.WordLaws.{
+  bit_of_word,
+  word_and,
+  word_or,
+  word_same,
+  word_none,
+  get_numbers,
+  EachWord,
+  each_word,
+}
 
 -- ---- members of a chunk
 
@@ -119,7 +128,7 @@ pair x y = (x, y)
 abbrev see : Words → ℕ → ℕ × ℕ
 see ws j = pair (get_or ws.bits j 0) (get_or ws.seen j 0)
 
-words_length : (t : List ℕ → Bool) (ps : List (List ℕ)) → length (words_of t ps) ≡ width ps
+pub words_length : (t : List ℕ → Bool) (ps : List (List ℕ)) → length (words_of t ps) ≡ width ps
 words_length t ps = length-map (numbers 0 (width ps)) (λ i. word_of t (chunk ps i)) ∙ numbers_length 0 (width ps)
 
 word_in : (t : List ℕ → Bool) (ps : List (List ℕ)) (j : ℕ) → j < width ps → get_or (words_of t ps) j 0
@@ -293,30 +302,31 @@ pass_holds v b t u ps ws h gone =
             × ((u : Bool) → u ≡ (u || ((t p && has_move v b p) && ends_by_move v b p)))
         none p m = untouched (t p) v b p (any_false (touches v b) p (chunk ps j) e m) (gone p (among_chunk p ps j m))
 
-words_same : (t u : List ℕ → Bool) (ps : List (List ℕ)) → ((p : List ℕ) → t p ≡ u p) → words_of t ps ≡ words_of u ps
+-- words by tests that agree on the paths are equal
+pub words_same : (t u : List ℕ → Bool) (ps : List (List ℕ)) → ((p : List ℕ) → Among p ps → t p ≡ u p) → words_of t ps
+    ≡ words_of u ps
 words_same t u ps h = each (numbers 0 (width ps))
   where
     each : (ns : List ℕ) → map (λ i. word_of t (chunk ps i)) ns ≡ map (λ i. word_of u (chunk ps i)) ns
     each [] = refl
-    each (n ∷ ns) = ap₂ (λ (x : ℕ) (l : List ℕ). x ∷ l) (word_same t u (chunk ps n) (λ p m. h p)) (each ns)
+    each (n ∷ ns) = ap₂ (λ (x : ℕ) (l : List ℕ). x ∷ l)
+        (word_same t u (chunk ps n) (λ p m. h p (among_chunk p ps n m))) (each ns)
 
 -- the words hold tests that agree with those that they hold
 holds_same : (t t2 u u2 : List ℕ → Bool) (ps : List (List ℕ)) (ws : Words) → ((p : List ℕ) → Among p ps → t p ≡ t2 p)
     → ((p : List ℕ) → Among p ps → u p ≡ u2 p)
     → Holds t u ps ws → Holds t2 u2 ps ws
-holds_same t t2 u u2 ps ws f g h = (h.0 ∙ same t t2 f (numbers 0 (width ps)), h.1 ∙ same u u2 g (numbers 0 (width ps)))
-  where
-    same : (t t2 : List ℕ → Bool) → ((p : List ℕ) → Among p ps → t p ≡ t2 p) → (ns : List ℕ)
-        → map (λ i. word_of t (chunk ps i)) ns ≡ map (λ i. word_of t2 (chunk ps i)) ns
-    same t t2 f [] = refl
-    same t t2 f (n ∷ ns) = ap₂ (λ (x : ℕ) (l : List ℕ). x ∷ l)
-        (word_same t t2 (chunk ps n) (λ p m. f p (among_chunk p ps n m))) (same t t2 f ns)
+holds_same t t2 u u2 ps ws f g h = (h.0 ∙ words_same t t2 ps f, h.1 ∙ words_same u u2 ps g)
 
 -- ---- along a walk
 
-or_assoc : (a b c : Bool) → ((a || b) || c) ≡ (a || (b || c))
+pub or_assoc : (a b c : Bool) → ((a || b) || c) ≡ (a || (b || c))
 or_assoc true b c = refl
 or_assoc false b c = refl
+
+pub or_none : (a : Bool) → a ≡ (a || false)
+or_none true = refl
+or_none false = refl
 
 -- after a move
 pub pass_stands : (s : ℕ) (old : List ℕ → Bool) (ps : List (List ℕ)) (w0 : List ℕ) (v b : ℕ) (ws : Words) → AreFit s ps
@@ -378,11 +388,6 @@ begin_stands s old ps ws fit long h =
     just_none (x ∷ []) e = e
     just_none (x ∷ (y ∷ p)) e = refl
 
-    word_none : (t : List ℕ → Bool) (qs : List (List ℕ)) → ((p : List ℕ) → Among p qs → t p ≡ false) → word_of t qs ≡ 0
-    word_none t [] f = refl
-    word_none t (q ∷ qs) f = ap₂ (λ (c : Bool) (n : ℕ). one_if c + 2 * n) (f q (inl refl))
-        (word_none t qs (λ p m. f p (inr m)))
-
     or_no : (a c : Bool) → c ≡ false → a ≡ (a || c)
     or_no true c e = refl
     or_no false c e = sym e
@@ -431,16 +436,12 @@ all_stand : (s : ℕ) (old : List ℕ → Bool) (ps walks : List (List ℕ)) (ws
     ≡ width ps → ws.seen ≡ words_of old ps
     → (all_walks_by ps s walks ws).seen ≡ words_of (λ p. old p || list_any (λ w. contains w p)
     (map (λ walk. s ∷ walk) walks)) ps
-all_stand s old ps [] ws fit long h = h ∙ words_same old (λ p. old p || false) ps (λ p. or_nothing (old p))
-  where
-    or_nothing : (a : Bool) → a ≡ (a || false)
-    or_nothing true = refl
-    or_nothing false = refl
+all_stand s old ps [] ws fit long h = h ∙ words_same old (λ p. old p || false) ps (λ p m. or_none (old p))
 all_stand s old ps (walk ∷ walks) ws fit long h =
     let one = walks_stand s old ps walk ws fit long h in
     all_stand s (λ p. old p || contains (s ∷ walk) p) ps walks (walks_by ps s walk ws) fit
     (ap (λ (l : List ℕ). length l) one.0 ∙ words_length (λ p. is_under_way (s ∷ walk) p) ps) one.1
-    ∙ words_same _ _ ps (λ p. or_assoc (old p) (contains (s ∷ walk) p)
+    ∙ words_same _ _ ps (λ p m. or_assoc (old p) (contains (s ∷ walk) p)
     (list_any (λ w. contains w p) (map (λ walk. s ∷ walk) walks)))
 
 pub all_seen : (s : ℕ) (ps walks : List (List ℕ)) (ws : Words) → AreFit s ps → length ws.bits ≡ width ps → ws.seen

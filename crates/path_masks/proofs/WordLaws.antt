@@ -106,6 +106,12 @@ word_same t u [] h = refl
 word_same t u (p ∷ ps) h = ap₂ (λ (c : Bool) (n : ℕ). one_if c + 2 * n) (h p (inl refl))
     (word_same t u ps (λ q m. h q (inr m)))
 
+-- where no path passes, the word is 0
+pub word_none : (t : List ℕ → Bool) (ps : List (List ℕ)) → ((p : List ℕ) → Among p ps → t p ≡ false) → word_of t ps ≡ 0
+word_none t [] h = refl
+word_none t (p ∷ ps) h = ap₂ (λ (c : Bool) (n : ℕ). one_if c + 2 * n) (h p (inl refl))
+    (word_none t ps (λ q m. h q (inr m)))
+
 -- ---- numbers in a row
 
 pub get_numbers : (f : ℕ → ℕ) (from n j : ℕ) → j < n → get_or (map f (numbers from n)) j 0 ≡ f (from + j)

@@ -44,6 +44,12 @@ while-numbers = refl
 abbrev star_paths : List (List ℕ)
 star_paths = map (λ k. 2 ∷ k ∷ 203 ∷ []) (numbers 3 200)
 
+-- the row of the last way's beginning: a path of the last word goes by it
+star-last-row : row_of_move 2 202 star_paths
+    ≡ record { word = 0; keep = 0; finish = 0; start = 0 } ∷ record { word = 1; keep = 0; finish = 0; start = 0 }
+    ∷ record { word = 2; keep = 0; finish = 0; start = 0 } ∷ record { word = 3; keep = 128; finish = 0; start = 0 } ∷ []
+star-last-row = refl
+
 -- the row of one way's end
 star-row : row_of_move 10 203 star_paths ≡ record { word = 0; keep = 128; finish = 128; start = 0 } ∷ []
 star-row = refl

@@ -4,3 +4,4 @@ pub mod PathTests
 pub mod Chunks
 pub mod Tables
 pub mod Laws
+pub mod NetWalks

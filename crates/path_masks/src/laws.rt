@@ -2,6 +2,7 @@
 
 ghost use Rattle.path_masks.specs.Laws.{BitsTell, TestsDecide, WalkBegins, WalkGoesOn};
 ghost use Rattle.path_masks.specs.Laws.{WalksAreSeen, PrimesAreFit};
+ghost use Rattle.path_masks.specs.NetWalks.{RowsNameWords, PrimesAreFollowed, PrimesAreSeen};
 
 /// Along any walk the bits are exactly those of the paths under way, and the words seen gain
 /// exactly the bits of the paths that the walk contains.
@@ -14,4 +15,16 @@ pub fn masks()
     ensures goes { WalkGoesOn }
     ensures seen { WalksAreSeen }
     ensures primes { PrimesAreFit }
+{}
+
+/// What `list_primes` and `rows_of` give for a net belongs together: along any walk of the net the
+/// bits are exactly those of its prime paths that are under way, and after any walks the words seen
+/// are exactly the bits of its prime paths that some walk contains. Each entry of the rows names one
+/// of the words, as `begin` and `pass` want it.
+///
+/// It does nothing: a caller gets its clauses.
+pub fn primes()
+    ensures words { RowsNameWords }
+    ensures follow { PrimesAreFollowed }
+    ensures seen { PrimesAreSeen }
 {}
