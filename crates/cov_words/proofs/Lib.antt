@@ -1,0 +1,4 @@
+pub mod NumberLaws
+pub mod SyntaxLaws
+pub mod ValueLaws
+pub mod ReadingLaws

@@ -1,0 +1,4 @@
+pub mod Numbers
+pub mod Syntax
+pub mod Values
+pub mod Reading
