@@ -1,0 +1,2 @@
+pub mod Circulation
+pub mod Solving
