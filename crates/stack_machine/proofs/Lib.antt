@@ -1,0 +1,10 @@
+pub mod Numbers
+pub mod TableLaws
+pub mod CodeFacts
+pub mod TidyMoves
+pub mod Holding
+pub mod StoreLaws
+pub mod CallLaws
+pub mod CountOps
+pub mod OneMore
+pub mod BitLaws
