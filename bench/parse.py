@@ -10,11 +10,10 @@ The last line says whether the bounds hold: 1,000,000 bytes of statements take b
 long as half of them.
 """
 import os
-import subprocess
 import sys
 import tempfile
 
-from scratch import best, gcc_syntax, memory, program_in, stack_limit, statements
+from scratch import TREE_RT, best, gcc_syntax, least_stack, memory, program_in, statements
 
 CRATES = ("cov_base", "int_ops", "c_tokens", "c_tree", "c_grammar", "c_syntax", "c_exprs", "c_parser")
 USES = "cov_base c_tokens c_tree c_grammar c_exprs c_parser sqlite_items"
@@ -30,25 +29,10 @@ use cov_base::{Refusal, SOURCE_LIMIT};
 use std::io;
 
 fn main(rt: HostRuntime) -> io::Result<()> {
-    let text = io::read_to_string(rt.alloc(), rt.stdin())?;
-    if text.len() > SOURCE_LIMIT {
-        return println!(rt; "too long");
-    }
-    let tokens = match scan(rt.alloc(), text.as_bytes()) {
-        Ok(tokens) => tokens,
-        Err(Refusal::Refused(fault)) => return println!(rt; "{fault:?}"),
-        Err(Refusal::NoMemory) => return println!(rt; "no memory"),
-    };
-    match parse(rt.alloc(), text.as_bytes(), &tokens) {
-        Ok(tree) => {
-            if text.len() <= 20000 {
-                println!(rt; "{tree:?}")
-            } else {
-                println!(rt; "{} parts", tree.outers.len())
-            }
-        }
-        Err(Refusal::Refused(fault)) => println!(rt; "{fault:?}"),
-        Err(Refusal::NoMemory) => println!(rt; "no memory"),
+""" + TREE_RT + """    if text.len() <= 20000 {
+        println!(rt; "{tree:?}")
+    } else {
+        println!(rt; "{} parts", tree.outers.len())
     }
 }
 """
@@ -92,19 +76,6 @@ DEEPEST = {
 }
 
 
-def least_stack(program, text):
-    """The least stack, in KiB, on which the text is read."""
-    low, high = 16, 8192
-    while high - low > 8:
-        middle = (low + high) // 2
-        done = subprocess.run(program, input=text.encode(), capture_output=True, preexec_fn=stack_limit(middle * 1024))
-        if done.returncode == 0 and done.stdout.startswith(b"Tree"):
-            high = middle
-        else:
-            low = middle
-    return high
-
-
 def main():
     keep = sys.argv[1] if len(sys.argv) > 1 else None
     with tempfile.TemporaryDirectory() as made:
@@ -117,7 +88,7 @@ def main():
             seconds[name], used[name] = taken - empty, memory(program, text)
             print(f"{name:>17}: {len(text):>9} bytes in {seconds[name]:.3f} s and {used[name] / 1e6:.0f} MB: {wrote[:40]}")
         for name, text in DEEPEST.items():
-            print(f"256 levels of {name} take {least_stack(program, text)} KiB of stack")
+            print(f"256 levels of {name} take {least_stack(program, text, b'Tree')} KiB of stack")
     taken = gcc_syntax(statements(1_000_000), RUNS)
     if taken is not None:
         print(f"gcc -fsyntax-only takes {taken:.3f} s for the statements")

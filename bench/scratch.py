@@ -67,6 +67,37 @@ def stack_limit(size):
     return lambda: resource.setrlimit(resource.RLIMIT_STACK, (size, size))
 
 
+def least_stack(program, text, word):
+    """The least stack, in KiB, on which the program ends well and writes the word."""
+    low, high = 16, 65_536
+    while high - low > 8:
+        middle = (low + high) // 2
+        done = subprocess.run(program, input=text.encode(), capture_output=True, preexec_fn=stack_limit(middle * 1024))
+        if done.returncode == 0 and word in done.stdout:
+            high = middle
+        else:
+            low = middle
+    return high
+
+
+# What a program does first that reads a tree from its standard input, and prints the fault where there is none.
+TREE_RT = """    let text = io::read_to_string(rt.alloc(), rt.stdin())?;
+    if text.len() > SOURCE_LIMIT {
+        return println!(rt; "too long");
+    }
+    let tokens = match scan(rt.alloc(), text.as_bytes()) {
+        Ok(tokens) => tokens,
+        Err(Refusal::Refused(fault)) => return println!(rt; "{fault:?}"),
+        Err(Refusal::NoMemory) => return println!(rt; "no memory"),
+    };
+    let tree = match parse(rt.alloc(), text.as_bytes(), &tokens) {
+        Ok(tree) => tree,
+        Err(Refusal::Refused(fault)) => return println!(rt; "{fault:?}"),
+        Err(Refusal::NoMemory) => return println!(rt; "no memory"),
+    };
+"""
+
+
 STATEMENTS = """int f%d(int n) {
   int total = 0;
   while (n > 0) {
