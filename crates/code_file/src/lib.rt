@@ -4,9 +4,12 @@
 
 pub mod checked;
 pub mod fault;
+pub mod head;
+pub mod laws;
 pub mod op_items;
 mod write;
 
 pub use checked::Checked;
 pub use fault::CodeFault;
+pub use laws::reading;
 pub use write::write_code;
