@@ -1,0 +1,3 @@
+pub mod OrderLaws
+mod Rows
+pub mod FaultLaws
