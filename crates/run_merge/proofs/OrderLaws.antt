@@ -1,5 +1,6 @@
 -- Merging in any order.
-use Rattle.std.proofs.Common.{◌≡◌, refl, sym, ap, ap₂, subst, ◌∙◌, ℕ, zero, suc, ◌+◌, ◌<◌, ◌≤◌, ◌==◌, ◌&&◌, max, Bool, true, false, cond}
+use Rattle.std.proofs.Common.{◌≡◌, refl, sym, ap, ap₂, subst, ◌∙◌, ℕ, zero, suc, ◌+◌, ◌<◌, ◌≤◌, ◌==◌, ◌&&◌}
+use Rattle.std.proofs.Common.{max, Bool, true, false, cond}
 use Rattle.std.proofs.Common.{List, [], ◌∷◌, length, Option, Some, None, ltb, arith, eqb-true, eq-eqb, bit_or}
 use Rattle.std.specs.Option.{option_or, option_map}
 use Rattle.std.specs.Int.{bit_at}
@@ -9,7 +10,8 @@ use Rattle.std.proofs.lemmas.Nat.Bits.{bit_at_or, same_from_bits}
 use Rattle.gcda_format.specs.Data.{FunctionDataValue, DataValue, count_limit, word_limit}
 use Rattle.run_merge.specs.declared.merging.MergeFault.{MergeFault}
 use Rattle.run_merge.specs.declared.merging.MergeFault.TheVariants as fault
-use Rattle.run_merge.specs.Merging.{joined, sums, ors, add_function, add_functions, added, same_shape, other_shape, passed}
+use Rattle.run_merge.specs.Merging.{joined, sums, ors, add_function, add_functions, added, same_shape}
+use Rattle.run_merge.specs.Merging.{other_shape, passed}
 use Rattle.run_merge.specs.Merging.{count_passed, merge_fault, InAnyOrder}
 
 -- ---- what no fault says
@@ -98,12 +100,14 @@ fit_sums c (x ∷ xs) (y ∷ ys) f =
     cond-false (ltb count_limit (x + y)) (Some c) (passed (c + 1) xs ys) (le-ltb count_limit (x + y) f.0)
     ∙ fit_sums (c + 1) xs ys f.1
 
-fit_of : (k : ℕ) (more others : List FunctionDataValue) → other_shape k more others ≡ None → count_passed k more others ≡ None → Fit more others
+fit_of : (k : ℕ) (more others : List FunctionDataValue) → other_shape k more others ≡ None → count_passed k more
+    others ≡ None → Fit more others
 fit_of k [] [] e f = tt
 fit_of k [] (b ∷ others) e f = absurd (let never : Some k ≡ None = e in cc)
 fit_of k (a ∷ more) [] e f = absurd (let never : Some k ≡ None = e in cc)
 fit_of k (a ∷ more) (b ∷ others) e f =
-    let p = or-none (option_map (λ c. fault.CountPassed k c) (passed 0 a.counters b.counters)) (count_passed (k + 1) more others) f in
+    let p = or-none (option_map (λ c. fault.CountPassed k c) (passed 0 a.counters b.counters)) (count_passed (k + 1)
+        more others) f in
     go (same_shape a b) refl e (λ e. fit_of (k + 1) more others e p.1)
     (sums_fit 0 a.counters b.counters (map-none (λ c. fault.CountPassed k c) (passed 0 a.counters b.counters) p.0))
   where
@@ -118,14 +122,16 @@ shape_of k [] [] f = refl
 shape_of k [] (b ∷ others) f = absurd f
 shape_of k (a ∷ more) [] f = absurd f
 shape_of k (a ∷ more) (b ∷ others) f =
-    cond-true (same_shape a b) (other_shape (k + 1) more others) (Some k) (of_same a b f.0) ∙ shape_of (k + 1) more others f.2
+    cond-true (same_shape a b) (other_shape (k + 1) more others) (Some k) (of_same a b f.0) ∙ shape_of (k + 1) more
+        others f.2
 
 counts_of : (k : ℕ) (more others : List FunctionDataValue) → Fit more others → count_passed k more others ≡ None
 counts_of k [] [] f = refl
 counts_of k [] (b ∷ others) f = refl
 counts_of k (a ∷ more) [] f = refl
 counts_of k (a ∷ more) (b ∷ others) f =
-    none-or (option_map (λ c. fault.CountPassed k c) (passed 0 a.counters b.counters)) (count_passed (k + 1) more others)
+    none-or (option_map (λ c. fault.CountPassed k c) (passed 0 a.counters b.counters)) (count_passed (k + 1) more
+        others)
     (none-map (λ c. fault.CountPassed k c) (passed 0 a.counters b.counters) (fit_sums 0 a.counters b.counters f.1))
     (counts_of (k + 1) more others f.2)
 
@@ -149,8 +155,10 @@ mergeable_of a b e =
 
 pub fault_of : (a b : DataValue) → Mergeable a b → merge_fault a b ≡ None
 fault_of a b m =
-    none-or _ _ (cond-true (a.stamp == b.stamp) None (Some (fault.OtherBuild a.stamp b.stamp)) (eq-eqb a.stamp b.stamp m.stamp))
-    (none-or _ _ (none-map fault.OtherShape (other_shape 0 a.functions b.functions) (shape_of 0 a.functions b.functions m.functions))
+    none-or _ _ (cond-true (a.stamp == b.stamp) None (Some (fault.OtherBuild a.stamp b.stamp)) (eq-eqb a.stamp
+        b.stamp m.stamp))
+    (none-or _ _ (none-map fault.OtherShape (other_shape 0 a.functions b.functions) (shape_of 0 a.functions
+        b.functions m.functions))
     (none-or _ _ (cond-false (ltb word_limit (a.runs + b.runs)) (Some fault.RunsPassed) None
     (le-ltb word_limit (a.runs + b.runs) m.runs)) (counts_of 0 a.functions b.functions m.functions)))
 
@@ -178,7 +186,8 @@ fit_turned : (more others : List FunctionDataValue) → Fit more others → Fit 
 fit_turned [] [] f = tt
 fit_turned [] (b ∷ others) f = absurd f
 fit_turned (a ∷ more) [] f = absurd f
-fit_turned (a ∷ more) (b ∷ others) f = (same_turned a b f.0, sums_turned a.counters b.counters f.1, fit_turned more others f.2)
+fit_turned (a ∷ more) (b ∷ others) f = (same_turned a b f.0, sums_turned a.counters b.counters f.1, fit_turned more
+    others f.2)
 
 abbrev function : ℕ → List ℕ → List ℕ → FunctionDataValue
 function checksum counters bits = record { checksum = checksum; counters = counters; bits = bits }
@@ -189,7 +198,8 @@ function_comm a b s =
     ∙ ap₂ (λ cs others. function b.checksum cs others) (joined_comm (λ x y. x + y) add_comm_ a.counters b.counters)
     (joined_comm bit_or or_comm a.bits b.bits)
 
-functions_comm : (more others : List FunctionDataValue) → Fit more others → add_functions more others ≡ add_functions others more
+functions_comm : (more others : List FunctionDataValue) → Fit more others → add_functions more others ≡
+    add_functions others more
 functions_comm [] [] f = refl
 functions_comm [] (b ∷ others) f = absurd f
 functions_comm (a ∷ more) [] f = absurd f
@@ -207,7 +217,8 @@ two a b e =
         runs = (let r = m.runs in omega (arith, r));
       }),
       ap (λ s. counts s (a.runs + b.runs) (add_functions a.functions b.functions)) m.stamp
-          ∙ ap₂ (λ r fs. counts b.stamp r fs) (add_comm_ a.runs b.runs) (functions_comm a.functions b.functions m.functions),
+          ∙ ap₂ (λ r fs. counts b.stamp r fs) (add_comm_ a.runs b.runs) (functions_comm a.functions b.functions
+              m.functions),
     )
 
 -- ---- three
@@ -277,7 +288,8 @@ fit_joined (a ∷ more) (b ∷ others) (c ∷ cs) f g =
 function_assoc : (a b c : FunctionDataValue)
     → add_function (add_function a b) c ≡ add_function a (add_function b c)
 function_assoc a b c =
-    ap₂ (λ cs others. function a.checksum cs others) (joined_assoc (λ x y. x + y) add_assoc_ a.counters b.counters c.counters)
+    ap₂ (λ cs others. function a.checksum cs others) (joined_assoc (λ x y. x + y) add_assoc_ a.counters b.counters
+        c.counters)
     (joined_assoc bit_or or_assoc a.bits b.bits c.bits)
 
 functions_assoc : (more others cs : List FunctionDataValue)
@@ -285,7 +297,8 @@ functions_assoc : (more others cs : List FunctionDataValue)
 functions_assoc [] others cs = refl
 functions_assoc (a ∷ more) [] cs = refl
 functions_assoc (a ∷ more) (b ∷ others) [] = refl
-functions_assoc (a ∷ more) (b ∷ others) (c ∷ cs) = ap₂ (λ x xs. x ∷ xs) (function_assoc a b c) (functions_assoc more others cs)
+functions_assoc (a ∷ more) (b ∷ others) (c ∷ cs) = ap₂ (λ x xs. x ∷ xs) (function_assoc a b c) (functions_assoc more
+    others cs)
 
 three : (a b c : DataValue) → merge_fault a b ≡ None → merge_fault (added a b) c ≡ None
     → (merge_fault b c ≡ None) × (merge_fault a (added b c) ≡ None) × (added (added a b) c ≡ added a (added b c))

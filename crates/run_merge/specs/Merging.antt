@@ -87,10 +87,12 @@ passed c (x ∷ xs) (y ∷ ys) = if nat_lt count_limit (x + y) then Some c else 
 abbrev pub count_passed : ℕ → List FunctionDataValue → List FunctionDataValue → Option MergeFault
 count_passed k [] others = None
 count_passed k (a ∷ more) [] = None
-count_passed k (a ∷ more) (b ∷ others) = option_or (option_map (λ c. fault.CountPassed k c) (passed 0 a.counters b.counters))
+count_passed k (a ∷ more) (b ∷ others) = option_or (option_map (λ c. fault.CountPassed k c) (passed 0 a.counters
+    b.counters))
     (count_passed (k + 1) more others)
 
--- The first that stands: other stamps, another shape of a function, more runs than can be told, a count above the limit.
+-- The first that stands: other stamps, another shape of a function, more runs than can be told, a count above the
+-- limit.
 abbrev pub merge_fault : DataValue → DataValue → Option MergeFault
 merge_fault a b =
     option_or (if a.stamp == b.stamp then None else Some (fault.OtherBuild a.stamp b.stamp))
