@@ -1,6 +1,5 @@
 -- What each step says of the text.
-use Rattle.std.proofs.Common.{◌≡◌, ℕ, List, [], Option, Some, None, sym, subst, ap, ◌∙◌}
-use Rattle.std.specs.Prelude.{Ok, Contains}
+use Rattle.std.proofs.Common.{◌≡◌, ℕ, List, Some, None, sym, subst, ap, ◌∙◌}
 use Rattle.cov_base.specs.declared.refusal.Refusal.{Refusal}
 use Rattle.cov_base.specs.declared.refusal.Refusal.TheVariants as refusal
 use Rattle.c_tokens.specs.declared.token.LexFault.{LexFault}

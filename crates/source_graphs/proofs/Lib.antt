@@ -1,1 +1,2 @@
 mod GraphLaws
+pub mod Acceptance

@@ -1,2 +1,3 @@
 pub mod SourceGraphs
 pub mod FaultWords
+pub mod Accepted

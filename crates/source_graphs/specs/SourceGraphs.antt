@@ -1,5 +1,5 @@
 -- The graphs of a text: what it is as a C source, and why it has none.
-use Rattle.std.specs.Prelude.{◌≡◌, ◌+◌, ℕ, List, [], Contains, length, Option, Some, None, Result, Ok, Err}
+use Rattle.std.specs.Prelude.{◌≡◌, ℕ, List, [], Contains, Some, None, Result, Ok, Err}
 use Rattle.cov_base.specs.declared.refusal.Refusal.{Refusal}
 use Rattle.cov_base.specs.declared.refusal.Refusal.TheVariants as refusal
 use Rattle.c_tokens.specs.declared.token.LexFault.{LexFault}

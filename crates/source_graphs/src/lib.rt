@@ -4,7 +4,9 @@
 
 mod fault_words;
 pub mod graphs;
+mod laws;
 #[cfg(test)]
 mod tests;
 
 pub use graphs::{SourceFault, graphs_of};
+pub use laws::accepting;
