@@ -84,8 +84,11 @@ once arcs before (a ∷ rest) inner grown =
         (ap (λ (o : Option ℕ). is_link o i) e ∙ eq-eqb i i refl)
 
     more : Once (before ++ a ∷ []) rest → Once before (a ∷ rest)
-    more r = record { new = λ b i e. new b i (a.block == b) e; one = λ p q i e f. one p q i (a.block == p) refl
-        (a.block == q) refl e f }
+    more r = record {
+      new = λ b i e. new b i (a.block == b) e;
+      one = λ p q i e f. one p q i (a.block == p) refl
+          (a.block == q) refl e f;
+    }
       where
         new : (b i : ℕ) (x : Bool) → cond x a.link (link_of rest b) ≡ Some i → is_linked before i ≡ false
         new b i true e = own i e

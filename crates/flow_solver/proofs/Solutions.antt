@@ -67,7 +67,7 @@ balanced net came xs is p = record { long = p.long; back = back; balance = balan
             let second = cond-true (b == 1) back (pos 0) (eq-eqb b 1 last) in
             at_exit (sum_in b net.arcs xs) (sum_out b net.arcs xs) (at_block 0 back b) (at_block 1 back b)
             (sum_in 0 net.arcs xs) (sum_out 0 net.arcs xs) (sum_in 1 net.arcs xs) (sum_out 1 net.arcs xs) first
-                second (ap (λ c. sum_in c net.arcs xs) last)
+            second (ap (λ c. sum_in c net.arcs xs) last)
             (ap (λ c. sum_out c net.arcs xs) last) both (brings 0) (brings 1))
         | inr other ↦
             (let first = cond-false (b == 0) back (pos 0) (ne_eqb b 0 inner) in

@@ -107,7 +107,7 @@ spread_step came i arcs d given given' out out' total l g o h =
     ∙ (ap (λ n. spread came n (drop (i + 1) arcs) (counters_behind came i given)
     (numbers_with came i (get_or arcs i d) given out)) more
     ∙ (ap (λ (r : List ℕ). spread came (i + 1) (drop (i + 1) arcs) r (numbers_with came i (get_or arcs i d) given
-        out)) (sym g)
+    out)) (sym g)
     ∙ ap (λ (r : List ℤ). spread came (i + 1) (drop (i + 1) arcs) given' r) (sym o)))) ∙ h
   where
     more : suc i ≡ i + 1

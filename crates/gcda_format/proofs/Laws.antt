@@ -36,12 +36,12 @@ bits_spell c cs =
 
 counters_spell : (c : ℕ)
     → Spells (longs counter_tag count_limit >>= λ counters. longs bit_tag long_limit >>= λ bits. give (made c
-        counters bits))
+    counters bits))
     (λ y. long_record counter_tag y.counters ++ (long_record bit_tag y.bits ++ []))
     (λ y. FitLongs count_limit y.counters × (FitLongs long_limit y.bits × (y ≡ made c y.counters y.bits)))
 counters_spell c =
     bind_spells (longs counter_tag count_limit) (λ counters. longs bit_tag long_limit >>= λ bits. give (made c
-        counters bits))
+    counters bits))
     (long_record counter_tag) (λ y. long_record bit_tag y.bits ++ []) (FitLongs count_limit)
     (λ cs y. FitLongs long_limit y.bits × (y ≡ made c cs y.bits)) (λ y. y.counters)
     (longs_spells counter_tag count_limit (omega arith) (omega arith)) (λ cs f. bits_spell c cs)
@@ -111,7 +111,7 @@ function_steady k =
     bind_steady (header function_tag 8) (λ h. fixed k fault.Order >>= λ n. behind_number) (header_steady function_tag 8)
     (λ h. bind_steady (fixed k fault.Order) (λ n. behind_number) (fixed_steady k fault.Order (λ at. tt))
     (λ n. bind_steady word (λ checksum. longs counter_tag count_limit >>= λ counters. longs bit_tag long_limit >>= λ
-        bits.
+    bits.
     give (made checksum counters bits)) word_steady
     (λ c. bind_steady (longs counter_tag count_limit) (λ counters. longs bit_tag long_limit >>= λ bits.
     give (made c counters bits)) (longs_steady counter_tag count_limit)
@@ -133,7 +133,7 @@ functions_spell : (stamp runs n : ℕ) → n < 4294967296
     (λ y. AreFunctions n y.functions × (y ≡ together stamp runs y.functions))
 functions_spell stamp runs n lt =
     bind_spells (each 0 n function_at) (λ functions. give (together stamp runs functions)) (spelled_from 0
-        function_bytes)
+    function_bytes)
     (λ y. []) (AreFunctions n) (λ fs y. y ≡ together stamp runs fs) (λ y. y.functions)
     (each_spells function_at function_bytes IsFunctionData 0 n (λ j l. function_spells j (omega (arith, l, lt))))
     (λ fs f. give_spells (together stamp runs fs)) (λ x y f e. ap (λ (r : DataValue). r.functions) e)
@@ -193,7 +193,7 @@ data_spells =
     respelled data_file
     (λ y. word_bytes magic ++ (word_bytes version ++ (word_bytes y.stamp ++ (word_bytes (length y.functions)
     ++ (header_bytes (runs_tag, 4) ++ (word_bytes y.runs ++ (spelled_from 0 function_bytes y.functions ++ [])))))))
-        data_bytes
+    data_bytes
     (λ y. IsThis magic magic × (IsThis version version × AllFit y)) IsData
     (bind_spells (fixed magic fault.Magic) (λ m. fixed version fault.Version >>= λ v. behind_version) word_bytes
     (λ y. word_bytes version ++ (word_bytes y.stamp ++ (word_bytes (length y.functions)
@@ -233,12 +233,12 @@ data_steady =
     bind_steady (fixed magic fault.Magic) (λ m. fixed version fault.Version >>= λ v. behind_version)
     (fixed_steady magic fault.Magic (λ at. tt))
     (λ m. bind_steady (fixed version fault.Version) (λ v. behind_version) (fixed_steady version fault.Version (λ at.
-        tt))
+    tt))
     (λ v. bind_steady word (λ stamp. behind_stamp stamp) word_steady
     (λ stamp. bind_steady word (λ count. header runs_tag 4 >>= λ h. behind_header stamp count) word_steady
     (λ count. bind_steady (header runs_tag 4) (λ h. behind_header stamp count) (header_steady runs_tag 4)
     (λ h. bind_steady word (λ runs. each 0 count function_at >>= λ functions. give (together stamp runs functions))
-        word_steady
+    word_steady
     (λ runs. bind_steady (each 0 count function_at) (λ functions. give (together stamp runs functions))
     (each_steady 0 count function_at function_steady) (λ functions. give_steady (together stamp runs functions))))))))
 

@@ -121,7 +121,7 @@ on_ok (Err f) next g e = absurd cc
 pub bind_takes : {A B : Type 0} (item : Reading A) (spell : A → List ℕ) (Fits : A → Type 0) (next : A → Reading B)
     → Spells item spell Fits → (bytes : List ℕ) (at : ℕ) (g : Got B) → IsBytes bytes → (item >>= next) bytes at ≡ Ok g
     → (h : Got A) × (bytes ≡ spell h.value ++ h.rest) × Fits h.value × IsBytes h.rest × (next h.value h.rest h.at ≡
-        Ok g)
+    Ok g)
 bind_takes item spell Fits next s bytes at g fits e =
     let p = on_ok (item bytes at) next g e in
     let t = s.takes bytes at p.0 fits p.1 in (p.0, t.0, t.1, t.2, p.2)
@@ -300,8 +300,16 @@ longs_spells tag limit t l =
     (λ size y f m. eighth size (length y) (eqb-true (size % 8) 0 f.1) m.0))
     (λ x y f m. is_this tag x f))
     (λ y h. record { few = h.1.0.0; within = h.1.1.1 })
-    (λ y h. (this_is tag t, ((h.few, eq-eqb (8 * length y % 8) 0 (multiple (length y))), (wholly (length y),
-        h.within))))
+    (λ y h. (
+      this_is tag t,
+      (
+        (h.few, eq-eqb (8 * length y % 8) 0 (multiple (length y))),
+        (
+          wholly (length y),
+          h.within,
+        ),
+      ),
+    ))
     (λ y f. sym (append_assoc (word_bytes tag) (word_bytes (8 * length y)) (longs_bytes y)))
   where
     eighth : (size n : ℕ) → size % 8 ≡ 0 → n ≡ size / 8 → 8 * n ≡ size

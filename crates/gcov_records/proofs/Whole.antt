@@ -65,8 +65,12 @@ is_exact {A} file spell Fits s steady bytes fits = record {
         → ended o ≡ Err (fault.Short (length bytes))
     front f o h e = by o h
       where
-        complete : file (bytes ++ f.more) 0 ≡ Ok (record { value = f.value; rest = []; at = 0 + length (spell
-            f.value) })
+        complete : file (bytes ++ f.more) 0 ≡ Ok (record {
+          value = f.value;
+          rest = [];
+          at = 0 + length (spell
+              f.value);
+        })
         complete = ap (λ (l : List ℕ). file l 0) (f.parts ∙ sym (append-nil (spell f.value)))
             ∙ s.again f.value [] 0 f.fits
 

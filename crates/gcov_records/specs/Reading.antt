@@ -67,8 +67,12 @@ tested test found item = λ bytes at. only_if test (found at) (item bytes at)
 -- the next number of so many bytes; where the bytes end before, the place is their end
 abbrev pub number : Width → Reading ℕ
 number w = λ bytes at. if nat_lt (length bytes) (byte_len w) then Err (fault.Short (at + length bytes)) else
-    Ok (record { value = from_le_bytes w (take (byte_len w) bytes); rest = drop (byte_len w) bytes; at = at +
-        byte_len w })
+    Ok (record {
+      value = from_le_bytes w (take (byte_len w) bytes);
+      rest = drop (byte_len w) bytes;
+      at = at +
+          byte_len w;
+    })
 
 -- the next word
 abbrev pub word : Reading ℕ

@@ -107,7 +107,7 @@ fit_of k [] (b ∷ others) e f = absurd (let never : Some k ≡ None = e in cc)
 fit_of k (a ∷ more) [] e f = absurd (let never : Some k ≡ None = e in cc)
 fit_of k (a ∷ more) (b ∷ others) e f =
     let p = or-none (option_map (λ c. fault.CountPassed k c) (passed 0 a.counters b.counters)) (count_passed (k + 1)
-        more others) f in
+    more others) f in
     go (same_shape a b) refl e (λ e. fit_of (k + 1) more others e p.1)
     (sums_fit 0 a.counters b.counters (map-none (λ c. fault.CountPassed k c) (passed 0 a.counters b.counters) p.0))
   where
@@ -123,7 +123,7 @@ shape_of k [] (b ∷ others) f = absurd f
 shape_of k (a ∷ more) [] f = absurd f
 shape_of k (a ∷ more) (b ∷ others) f =
     cond-true (same_shape a b) (other_shape (k + 1) more others) (Some k) (of_same a b f.0) ∙ shape_of (k + 1) more
-        others f.2
+    others f.2
 
 counts_of : (k : ℕ) (more others : List FunctionDataValue) → Fit more others → count_passed k more others ≡ None
 counts_of k [] [] f = refl
@@ -131,7 +131,7 @@ counts_of k [] (b ∷ others) f = refl
 counts_of k (a ∷ more) [] f = refl
 counts_of k (a ∷ more) (b ∷ others) f =
     none-or (option_map (λ c. fault.CountPassed k c) (passed 0 a.counters b.counters)) (count_passed (k + 1) more
-        others)
+    others)
     (none-map (λ c. fault.CountPassed k c) (passed 0 a.counters b.counters) (fit_sums 0 a.counters b.counters f.1))
     (counts_of (k + 1) more others f.2)
 
@@ -156,9 +156,9 @@ mergeable_of a b e =
 pub fault_of : (a b : DataValue) → Mergeable a b → merge_fault a b ≡ None
 fault_of a b m =
     none-or _ _ (cond-true (a.stamp == b.stamp) None (Some (fault.OtherBuild a.stamp b.stamp)) (eq-eqb a.stamp
-        b.stamp m.stamp))
+    b.stamp m.stamp))
     (none-or _ _ (none-map fault.OtherShape (other_shape 0 a.functions b.functions) (shape_of 0 a.functions
-        b.functions m.functions))
+    b.functions m.functions))
     (none-or _ _ (cond-false (ltb word_limit (a.runs + b.runs)) (Some fault.RunsPassed) None
     (le-ltb word_limit (a.runs + b.runs) m.runs)) (counts_of 0 a.functions b.functions m.functions)))
 
@@ -186,8 +186,12 @@ fit_turned : (more others : List FunctionDataValue) → Fit more others → Fit 
 fit_turned [] [] f = tt
 fit_turned [] (b ∷ others) f = absurd f
 fit_turned (a ∷ more) [] f = absurd f
-fit_turned (a ∷ more) (b ∷ others) f = (same_turned a b f.0, sums_turned a.counters b.counters f.1, fit_turned more
-    others f.2)
+fit_turned (a ∷ more) (b ∷ others) f = (
+  same_turned a b f.0,
+  sums_turned a.counters b.counters f.1,
+  fit_turned more
+      others f.2,
+)
 
 abbrev function : ℕ → List ℕ → List ℕ → FunctionDataValue
 function checksum counters bits = record { checksum = checksum; counters = counters; bits = bits }
@@ -218,7 +222,7 @@ two a b e =
       }),
       ap (λ s. counts s (a.runs + b.runs) (add_functions a.functions b.functions)) m.stamp
           ∙ ap₂ (λ r fs. counts b.stamp r fs) (add_comm_ a.runs b.runs) (functions_comm a.functions b.functions
-              m.functions),
+          m.functions),
     )
 
 -- ---- three
@@ -289,7 +293,7 @@ function_assoc : (a b c : FunctionDataValue)
     → add_function (add_function a b) c ≡ add_function a (add_function b c)
 function_assoc a b c =
     ap₂ (λ cs others. function a.checksum cs others) (joined_assoc (λ x y. x + y) add_assoc_ a.counters b.counters
-        c.counters)
+    c.counters)
     (joined_assoc bit_or or_assoc a.bits b.bits c.bits)
 
 functions_assoc : (more others cs : List FunctionDataValue)

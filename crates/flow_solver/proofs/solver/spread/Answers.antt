@@ -13,10 +13,10 @@ loop-index-preserved c = record {
   rest = spread_step c.args.tree.now c.loop-index.index c.arcs-arcs.result.now _ c.loop-index.left.now _
       c.loop-index.out _
       _ c.loop-index-test.true c.put_first-left.ensures.left c.put_first-left.ensures.numbers
-          c.loop-index.invariant.rest;
+      c.loop-index.invariant.rest;
   small = step_small c.args.tree.now c.loop-index.index
       (get_or c.arcs-arcs.result.now c.loop-index.index (record { from = 0; to = 0; kind = Real }))
-          c.loop-index.left.now c.loop-index.out _
+      c.loop-index.left.now c.loop-index.out _
       c.put_first-left.ensures.numbers c.loop-index.invariant.counts c.loop-index.invariant.small;
   counts = step_counts c.args.tree.now c.loop-index.index c.loop-index.left.now _ c.put_first-left.ensures.left
       c.loop-index.invariant.counts;

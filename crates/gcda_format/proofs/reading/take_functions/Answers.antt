@@ -21,6 +21,6 @@ loop-number-preserved c =
     rw c.in_ok-push.ensures.items
     (goes_on c.loop-number.functions.items function_at c.args.count c.loop-number.number (left c.loop-number.reader)
     c.loop-number.reader.at c.in_ok-take_function.field-0 (left c.take_function.new.reader)
-        c.take_function.new.reader.at
+    c.take_function.new.reader.at
     (each 0 c.args.count function_at (left c.args.reader.now) c.args.reader.now.at) c.loop-number-test.true
     c.in_ok-take_function.ensures c.loop-number.invariant)

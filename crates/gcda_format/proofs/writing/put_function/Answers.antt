@@ -7,7 +7,7 @@ use Rattle.gcda_format.proofs.writing.put_function.Goals as goal
 pub returns : goal.returns
 returns c =
     subst (λ (f : FunctionDataValue). c.put_longs-2.new.out.items ≡ c.args.out.now.items ++ function_bytes
-        c.args.number f)
+    c.args.number f)
     c.function.view_is
     (function_put c.args.number _ c.args.out.now.items c.put_header.new.out.items c.put_word.new.out.items
     c.put_word-2.new.out.items c.put_longs.new.out.items c.put_longs-2.new.out.items c.deref.result.now
