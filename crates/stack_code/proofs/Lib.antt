@@ -21,3 +21,10 @@ pub mod PassLaws
 pub mod TableFits
 pub mod CoveredPasses
 mod EmitRows
+pub mod StartLaws
+pub mod GoalLaws
+pub mod BodyLaws
+pub mod StubLaws
+pub mod HeightLaws
+pub mod UnitLaws
+pub mod ArcPlaces

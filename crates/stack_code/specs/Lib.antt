@@ -1,5 +1,7 @@
 pub mod Agreement
+pub mod Arcs
 pub mod Checked
+pub mod Covering
 pub mod Deepest
 pub mod Emits
 pub mod Fitting
@@ -7,4 +9,6 @@ pub mod Laws
 pub mod Laying
 pub mod Modes
 pub mod Orderly
+pub mod Places
+pub mod Stubs
 pub mod UnitCode

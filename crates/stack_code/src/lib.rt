@@ -3,8 +3,19 @@
 
 #![tactic(auto)]
 
+mod blocks;
+mod depth;
+mod endings;
+mod goals;
 pub mod laws;
+mod marks;
+mod on_arc;
+mod operands;
 pub mod shape;
+mod starts;
+mod switches;
+mod units;
 
 pub use laws::emission;
 pub use shape::{EmitFault, Mode, Shape};
+pub use units::emit;
