@@ -1,5 +1,5 @@
 -- A call that begins: what a run of the machine makes of it is what a run of the code does.
-use Rattle.std.proofs.Common.{◌≡◌, refl, sym, ap, ◌∙◌, ℕ, suc, ◌+◌, ◌-◌, ◌<◌, ◌≤◌, List, [], ◌∷◌, ◌++◌, length, take, drop, cond}
+use Rattle.std.proofs.Common.{◌≡◌, refl, ap, ◌∙◌, ℕ, suc, ◌+◌, ◌-◌, ◌<◌, ◌≤◌, List, [], ◌∷◌, ◌++◌, length, take, drop, cond}
 use Rattle.std.proofs.Common.{Option, Some, arith}
 use Rattle.std.specs.Prelude.{ℤ, nat_lt, reverse}
 use Rattle.std.proofs.lemmas.List.{reverse-reverse, length-reverse}

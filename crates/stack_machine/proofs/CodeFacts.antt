@@ -1,9 +1,9 @@
 -- What a code that breaks no rule has for a machine.
-use Rattle.std.proofs.Common.{◌≡◌, refl, sym, subst, ℕ, zero, suc, ◌+◌, ◌<◌, ◌≤◌, ◌&&◌, ◌||◌, ◌==◌, true, List, [], ◌∷◌, length, Option}
+use Rattle.std.proofs.Common.{◌≡◌, refl, sym, subst, ℕ, zero, suc, ◌+◌, ◌≤◌, ◌||◌, true, List, [], ◌∷◌, length, Option}
 use Rattle.std.proofs.Common.{Some, None, T, arith}
 use Rattle.std.specs.Prelude.{ℤ, nat_lt, nat_le, int_le, slice_get}
 use Rattle.std.specs.List.{All}
-use Rattle.std.proofs.lemmas.Bool.{ltb-true, leb-true}
+use Rattle.std.proofs.lemmas.Bool.{leb-true}
 use Rattle.std.proofs.lemmas.Option.{same_Some, none-some}
 use lib.Signed.{le_z_yes}
 use Rattle.int_ops.specs.Ranges.{IsNumber, least, greatest}
@@ -16,7 +16,7 @@ use Rattle.code_runs.specs.Limits.{cell_limit, depth_limit, path_limit, number_l
 use Rattle.code_runs.specs.Checks.{Rule, broken}
 use Rattle.code_runs.specs.CodeChecks.{is_number, number_there, unless_at, globals_fault, numbers_fault, limits_kept}
 use Rattle.code_runs.specs.CodeChecks.{counts_nothing, fields_kept, numbers_in, of_table, function_items, functions_items, items_fault}
-use Rattle.code_runs.specs.CodeChecks.{counted_from, row_fault, function_values, functions_values, main_kept, values_fault}
+use Rattle.code_runs.specs.CodeChecks.{counted_from, row_fault, function_values, functions_values, values_fault}
 use Rattle.code_runs.specs.CodeChecks.{code_fault}
 use Rattle.code_runs.specs.Counts.{sizes}
 use Rattle.code_runs.specs.Sound.{Sound}

@@ -1,7 +1,7 @@
 -- What holds while a run goes on: it is at a point of a run of the code, within its room.
-use Rattle.std.proofs.Common.{◌≡◌, refl, sym, ap, subst, ◌∙◌, ℕ, zero, suc, ◌+◌, ◌-◌, ◌*◌, ◌<◌, ◌≤◌, ◌^◌, ◌&&◌, true, List, []}
+use Rattle.std.proofs.Common.{◌≡◌, refl, sym, ap, subst, ◌∙◌, ℕ, zero, suc, ◌+◌, ◌-◌, ◌*◌, ◌<◌, ◌≤◌, ◌^◌, true, List, []}
 use Rattle.std.proofs.Common.{◌∷◌, length, take, drop, get_or, Option, Some, None, arith, length-drop, mul-le-mul_right, mul-le-mul_left}
-use Rattle.std.specs.Prelude.{ℤ, pos, map, reverse, nat_lt, slice_get, slice_index_or}
+use Rattle.std.specs.Prelude.{ℤ, map, reverse, nat_lt, slice_get, slice_index_or}
 use Rattle.std.proofs.lemmas.Bool.{ltb-true}
 use Rattle.std.proofs.lemmas.Option.{same_Some, none-some, slice_get_within, slice_get_read}
 use Rattle.std.proofs.lemmas.List.{length-reverse, length-take-le, length-map}
@@ -10,10 +10,10 @@ use Rattle.stack_ops.specs.declared.operation.Op.{Op}
 use Rattle.stack_ops.specs.declared.operation.Op.TheVariants as op
 use Rattle.stack_ops.specs.Code.{FunctionValue, CodeValue}
 use Rattle.stack_ops.specs.Shapes.{given_by}
-use Rattle.code_runs.specs.CodeRun.{Waiting, Point, Ran, Move, Goes_on, Over, over, move, goes, does, bits_in, first}
+use Rattle.code_runs.specs.CodeRun.{Point, Ran, Goes_on, Over, move, goes, does, bits_in}
 use Rattle.code_runs.specs.Checks.{counter_there, row_there}
-use Rattle.code_runs.specs.Sound.{Suits, Kept, Typed}
-use Rattle.code_runs.specs.Fits.{Waits, WaitsAt, FitsIn, Fits}
+use Rattle.code_runs.specs.Sound.{Suits}
+use Rattle.code_runs.specs.Fits.{Waits, Fits}
 use Rattle.code_runs.specs.Counts.{size_of, left, waiting, sizes, weight, value, counter}
 use Rattle.code_runs.specs.Laws.{FitsOn, LighterThan}
 use Rattle.code_runs.specs.Tables.{words_in, behind_row, passes_from}

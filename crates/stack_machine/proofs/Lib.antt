@@ -8,3 +8,5 @@ pub mod CallLaws
 pub mod CountOps
 pub mod OneMore
 pub mod BitLaws
+pub mod BeginLaws
+pub mod RowStartLaws

@@ -1,12 +1,12 @@
 -- The rows of a table that breaks no rule are there, and their words too.
-use Rattle.std.proofs.Common.{◌≡◌, refl, sym, ap, subst, ℕ, zero, suc, ◌+◌, ◌*◌, ◌<◌, ◌≤◌, ◌&&◌, Bool, true, false, cond, List}
+use Rattle.std.proofs.Common.{◌≡◌, refl, ℕ, zero, suc, ◌+◌, ◌*◌, ◌<◌, ◌≤◌, ◌&&◌, Bool, true, false, cond, List}
 use Rattle.std.proofs.Common.{[], ◌∷◌, length, take, drop, Option, Some, None, arith}
 use Rattle.std.specs.Prelude.{nat_lt, nat_le, slice_index_or}
 use Rattle.std.specs.List.{All}
 use Rattle.std.proofs.lemmas.Bool.{ltb-true, leb-true}
-use Rattle.word_rules.specs.WordRules.{BeginEntry, PassEntry, begin_entries, pass_entries, begin_row, pass_row}
+use Rattle.word_rules.specs.WordRules.{BeginEntry, PassEntry, begin_entries, pass_entries}
 use Rattle.stack_ops.specs.Code.{FunctionValue}
-use Rattle.code_runs.specs.Tables.{TableFault, OtherLength, TooMany, words_in, row_length, front_row, behind_row, begin_of}
+use Rattle.code_runs.specs.Tables.{TableFault, OtherLength, TooMany, words_in, row_length, behind_row}
 use Rattle.code_runs.specs.Tables.{passes_from, word_fault, with_row, rows_fault, layout_fault, rows_word, table_word}
 use Rattle.code_runs.proofs.CheckLaws.{or-none, and-both}
 use Rattle.stack_machine.specs.Tables.{BeginFits, PassFits, TableFits}

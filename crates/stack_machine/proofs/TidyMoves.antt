@@ -1,5 +1,5 @@
 -- What each instruction keeps of path bits and counts: their sizes, and how great a counter may be.
-use Rattle.std.proofs.Common.{◌≡◌, refl, sym, ap, subst, ◌∙◌, ℕ, zero, suc, ◌+◌, ◌≤◌, Bool, true, false, cond, List, [], ◌∷◌}
+use Rattle.std.proofs.Common.{◌≡◌, refl, sym, ap, ◌∙◌, ℕ, zero, suc, ◌≤◌, Bool, true, false, cond, List, [], ◌∷◌}
 use Rattle.std.proofs.Common.{length, Option, Some, None, arith}
 use Rattle.std.specs.Prelude.{ℤ, pos, map, nat_lt, replicate, slice_get, slice_set, slice_index_or}
 use Rattle.std.specs.List.{fold}

@@ -1,25 +1,8 @@
 -- What a machine keeps for a code, and what its runs come to.
-use Rattle.std.specs.Prelude.{
-  ℕ,
-  ◌≡◌,
-  ◌+◌,
-  ◌*◌,
-  ◌≤◌,
-  ◌^◌,
-  List,
-  [],
-  ◌∷◌,
-  length,
-  map,
-  Option,
-  Some,
-  None,
-  slice_get,
-}
+use Rattle.std.specs.Prelude.{ℕ, ◌≡◌, ◌+◌, ◌*◌, ◌≤◌, List, [], ◌∷◌, length, map, Some, slice_get}
 use Rattle.stack_ops.specs.declared.endings.Outcome.{Outcome}
 use Rattle.stack_ops.specs.Code.{FunctionValue, CodeValue}
-use Rattle.code_runs.specs.CodeRun.{Marked, Ran, CodeRun, first}
-use Rattle.code_runs.specs.CodeChecks.{code_fault}
+use Rattle.code_runs.specs.CodeRun.{Marked, CodeRun, first}
 use Rattle.code_runs.specs.Tables.{words_in}
 use Rattle.stack_machine.specs.Tables.{StartsAt}
 use Rattle.stack_machine.specs.declared.run.Run.{Run}

@@ -6,3 +6,5 @@ pub mod Tables
 pub mod Points
 pub mod Ready
 pub mod Held
+pub mod Machine
+pub mod Served

@@ -1,30 +1,10 @@
 -- The point of a run of a code that a run of the machine is at.
-use Rattle.std.specs.Prelude.{
-  ℕ,
-  ◌-◌,
-  ◌<◌,
-  ◌+◌,
-  ◌≤◌,
-  ◌≡◌,
-  ℤ,
-  List,
-  [],
-  ◌∷◌,
-  ◌++◌,
-  length,
-  map,
-  take,
-  drop,
-  reverse,
-  Option,
-  Some,
-  None,
-}
+use Rattle.std.specs.Prelude.{ℕ, ◌-◌, ◌≤◌, ◌≡◌, ℤ, List, [], ◌∷◌, ◌++◌, length, map, take, drop, reverse, Option, Some, None}
 use Rattle.stack_ops.specs.declared.endings.Outcome.{Outcome}
 use Rattle.stack_ops.specs.declared.operation.Op.{Op}
 use Rattle.stack_ops.specs.declared.operation.Op.TheVariants as op
 use Rattle.stack_ops.specs.Code.{FunctionValue, CodeValue}
-use Rattle.code_runs.specs.CodeRun.{Waiting, Marked, Point, Tally, Move, Goes_on, over, does, at_index, marked_too}
+use Rattle.code_runs.specs.CodeRun.{Waiting, Marked, Point, Move, Goes_on, over, does, at_index, marked_too}
 use Rattle.stack_machine.specs.Counts.{CountsValue}
 use Rattle.stack_machine.specs.declared.frame.Frame.{Frame}
 use Rattle.stack_machine.specs.declared.run.Run.{Run}

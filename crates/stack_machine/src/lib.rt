@@ -3,6 +3,7 @@
 
 #![tactic(auto)]
 
+mod begin;
 mod bits;
 mod call_ops;
 mod cell_ops;
@@ -12,6 +13,7 @@ mod finish;
 mod frame;
 mod globals;
 mod jump_ops;
+pub mod machine;
 mod operand_ops;
 mod operator_ops;
 mod rows;
@@ -20,3 +22,5 @@ mod step;
 mod store;
 mod stream_ops;
 mod streams;
+
+pub use machine::Machine;

@@ -1,4 +1,4 @@
-use Rattle.std.proofs.Common.{◌≡◌, ◌+◌, ◌++◌, ◌∙◌, length, replicate, arith}
+use Rattle.std.proofs.Common.{◌≡◌, ◌+◌, ◌∙◌, length, arith}
 use Rattle.stack_machine.proofs.BitLaws.{bits-more, bits-begun}
 use Rattle.stack_machine.proofs.bits.PathBits.begin.Goals as goal
 

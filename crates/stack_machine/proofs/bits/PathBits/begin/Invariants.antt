@@ -1,4 +1,4 @@
-use Rattle.std.proofs.Common.{◌≡◌, ◌-◌, ◌++◌, replicate}
+use Rattle.std.proofs.Common.{◌≡◌, ◌++◌, replicate}
 use Rattle.stack_machine.proofs.bits.PathBits.begin.Given as goal
 
 abbrev pub invariant-loop : goal.invariant-loop

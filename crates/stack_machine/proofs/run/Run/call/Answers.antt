@@ -1,4 +1,4 @@
-use Rattle.std.proofs.Common.{◌≡◌, ◌-◌, ◌+◌, ◌<◌, ◌≤◌, ◌∙◌, ◌∷◌, [], suc, sym, ap, refl, length, arith}
+use Rattle.std.proofs.Common.{◌-◌, ◌∙◌, ◌∷◌, [], ap, refl, arith}
 use Rattle.std.specs.Prelude.{reverse}
 use Rattle.std.proofs.lemmas.List.{reverse-append}
 use Rattle.code_runs.specs.Tables.{words_in}

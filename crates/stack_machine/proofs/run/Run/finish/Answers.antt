@@ -1,9 +1,8 @@
-use Rattle.std.proofs.Common.{◌≡◌, ◌<◌, ◌≤◌, ◌∙◌, ◌+◌, ◌^◌, ℕ, length, refl, sym, ap, subst, Some, None, List, suc, arith}
+use Rattle.std.proofs.Common.{◌≡◌, ◌<◌, ◌∙◌, ℕ, length, refl, sym, ap, subst, Some, List, suc, arith}
 use Rattle.std.specs.Prelude.{slice_get}
 use Rattle.std.proofs.lemmas.Option.{same_Some, slice_get_within}
 use Rattle.stack_ops.specs.Code.{CodeValue, FunctionValue}
-use Rattle.code_runs.specs.CodeRun.{Point, Move, Goes_on, Over, Ran, move, first}
-use Rattle.code_runs.specs.Counts.{weight}
+use Rattle.code_runs.specs.CodeRun.{Point, Goes_on, Over, Ran, move}
 use Rattle.stack_machine.specs.Points.{Ghosts, point, told, with_bytes, after, counters_of, words_of}
 use Rattle.stack_machine.specs.Held.{at_start}
 use Rattle.stack_machine.specs.Tables.{StartsAt}

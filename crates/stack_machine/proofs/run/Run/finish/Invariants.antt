@@ -1,4 +1,4 @@
-use Rattle.std.proofs.Common.{◌≡◌, ℕ, ◌+◌, ◌≤◌, ◌^◌}
+use Rattle.std.proofs.Common.{ℕ, ◌+◌, ◌≤◌, ◌^◌}
 use Rattle.code_runs.specs.CodeRun.{Ran, first}
 use Rattle.code_runs.specs.Counts.{weight}
 use Rattle.stack_machine.specs.Points.{Ghosts, point, with_bytes}

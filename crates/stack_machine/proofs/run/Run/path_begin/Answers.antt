@@ -1,5 +1,5 @@
-use Rattle.std.proofs.Common.{◌≡◌, ◌+◌, refl, sym, ap, subst, List, drop, length, Some, arith}
-use Rattle.std.specs.Prelude.{ℕ, slice_get}
+use Rattle.std.proofs.Common.{◌≡◌, ◌+◌, refl, ap, Some, arith}
+use Rattle.std.specs.Prelude.{slice_get}
 use Rattle.std.specs.Vec.{with_item}
 use Rattle.std.proofs.lemmas.Option.{slice_get_read}
 use Rattle.stack_machine.specs.Bits.{BitsValue}

@@ -1,4 +1,4 @@
-use Rattle.std.proofs.Common.{◌≡◌, ◌∙◌, ◌<◌, ◌≤◌, ◌+◌, arith, ap, length, ℤ, refl, sym, subst, Some, SFits}
+use Rattle.std.proofs.Common.{◌≡◌, ◌∙◌, ◌<◌, arith, ap, length, ℤ, refl, sym, subst, Some}
 use Rattle.std.specs.Prelude.{slice_get}
 use Rattle.std.proofs.lemmas.Bool.{ltb-true}
 use Rattle.std.proofs.lemmas.Option.{slice_get_read}
@@ -8,7 +8,7 @@ use Rattle.stack_ops.specs.Code.{CodeValue, FunctionValue}
 use Rattle.int_ops.specs.Ranges.{IsNumber}
 use Rattle.stack_ops.specs.declared.operation.Op.TheVariants as op
 use Rattle.code_runs.specs.CodeRun.{does}
-use Rattle.stack_machine.specs.Points.{point, told, with_bytes, after}
+use Rattle.stack_machine.specs.Points.{point, told, with_bytes}
 use Rattle.stack_machine.proofs.Numbers.{number-fits}
 use Rattle.stack_machine.proofs.run.Run.step.Goals as goal
 

@@ -1,4 +1,4 @@
-use Rattle.std.proofs.Common.{◌≡◌, ◌-◌, ◌+◌, ◌≤◌, ◌∙◌, length, replicate, pos, sym, refl, length-append, arith}
+use Rattle.std.proofs.Common.{◌≡◌, ◌-◌, ◌+◌, ◌≤◌, ◌∙◌, length, replicate, pos, refl, length-append, arith}
 use Rattle.std.proofs.lemmas.List.{length-replicate}
 use Rattle.stack_machine.proofs.StoreLaws.{seen-begun, zero-more, operands-within}
 use Rattle.stack_machine.proofs.store.Store.begin.Goals as goal
