@@ -223,4 +223,5 @@ def print_faults():
     print("];")
 
 
-print_trees() if sys.argv[1:] == ["trees"] else print_faults()
+if __name__ == "__main__":
+    print_trees() if sys.argv[1:] == ["trees"] else print_faults()
