@@ -13,7 +13,8 @@ fn prime_paths_of_small_nets(rt: HostRuntime) -> Result<(), Fail> {
     let turn: &[(u32, u32)] = &[(0, 2), (2, 3), (3, 1), (3, 3)];
     let single: &[(u32, u32)] = &[(0, 2), (2, 1)];
     let loop_of_two: &[(u32, u32)] = &[(0, 2), (2, 3), (3, 4), (3, 5), (4, 3), (5, 1)];
-    let rows: [(u32, &[(u32, u32)], u32, &str); 8] = [
+    let one_if: &[(u32, u32)] = &[(0, 2), (2, 3), (2, 4), (3, 4), (4, 1)];
+    let rows: [(u32, &[(u32, u32)], u32, &str); 9] = [
         (6, cycle, 4, "2 3 4 5 , 3 4 5 3 , 4 5 3 4 , 5 3 4 5 , "),
         (6, cycle, 3, "more"),
         (6, cycle, 0, "more"),
@@ -27,6 +28,7 @@ fn prime_paths_of_small_nets(rt: HostRuntime) -> Result<(), Fail> {
             5,
             "2 3 4 , 2 3 5 , 3 4 3 , 4 3 4 , 4 3 5 , ",
         ),
+        (5, one_if, 2, "2 3 4 , 2 4 , "),
     ];
     for (blocks, ends, limit, expected) in rows {
         assert!(rt; limit <= 65536);
@@ -34,6 +36,34 @@ fn prime_paths_of_small_nets(rt: HostRuntime) -> Result<(), Fail> {
             Some(net) => assert_listed(&rt, &net, limit, expected)?,
             None => panic!(rt; "no net"),
         }
+    }
+    Ok(())
+}
+
+/// A function of the made source: a loop with an `if` in it, and a return behind it.
+#[test]
+fn made_function_has_eight_cycles_and_seven_more(rt: HostRuntime) -> Result<(), Fail> {
+    let ends: &[(u32, u32)] = &[
+        (0, 2),
+        (2, 3),
+        (3, 4),
+        (3, 8),
+        (4, 5),
+        (4, 6),
+        (5, 7),
+        (6, 7),
+        (7, 3),
+        (8, 1),
+    ];
+    let expected =
+        "2 3 4 5 7 , 2 3 4 6 7 , 2 3 8 , 3 4 5 7 3 , 3 4 6 7 3 , 4 5 7 3 4 , 4 5 7 3 8 , 4 6 7 3 4 , \
+        4 6 7 3 8 , 5 7 3 4 5 , 5 7 3 4 6 , 6 7 3 4 5 , 6 7 3 4 6 , 7 3 4 5 7 , 7 3 4 6 7 , ";
+    match net_of(rt.alloc(), 9, ends)? {
+        Some(net) => {
+            assert_listed(&rt, &net, 15, expected)?;
+            assert_listed(&rt, &net, 14, "more")?;
+        }
+        None => panic!(rt; "no net"),
     }
     Ok(())
 }

@@ -44,6 +44,9 @@ fn rows_of_a_cycle_and_of_a_loop(rt: HostRuntime) -> Result<(), Fail> {
 
 #[test]
 fn table_of_a_star_has_4413_numbers(rt: HostRuntime) -> Result<(), Fail> {
+    // The rows of the arcs 2-202 and 10-203.
+    let last_way: &[u64] = &[4, 0, 0, 0, 0, 1, 0, 0, 0, 2, 0, 0, 0, 3, 128, 0, 0];
+    let one_end: &[u64] = &[1, 0, 128, 128, 0];
     let ends = star_ends(rt.alloc())?;
     match net_of(rt.alloc(), 204, &ends)? {
         Some(net) => match rows_for(&rt, &net) {
@@ -51,6 +54,8 @@ fn table_of_a_star_has_4413_numbers(rt: HostRuntime) -> Result<(), Fail> {
                 assert_eq!(rt; rows.width(), 4);
                 assert_eq!(rt; rows.begin_row().len(), 13);
                 assert_eq!(rt; rows.table().len(), 4413);
+                assert_eq!(rt; &rows.table()[3396..3413], last_way);
+                assert_eq!(rt; &rows.table()[3448..3453], one_end);
             }
             _ => panic!(rt; "no rows"),
         },
