@@ -36,7 +36,7 @@ use Rattle.c_typing.specs.Declarations.{
   all_numbers,
 }
 use Rattle.c_typing.proofs.TypeLaws.{not_none, none_left, none_right}
-use Rattle.c_types.proofs.ListLaws.{Walk, faults_in, seen_in, behind}
+use Rattle.c_values.proofs.ListLaws.{Walk, faults_in, seen_in, behind}
 
 -- a name without fault isn't declared
 pub again : (b : Bool) (place : ℕ) → cond b (fault.Redeclared place ∷ []) [] ≡ [] → b ≡ false

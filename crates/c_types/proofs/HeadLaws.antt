@@ -8,7 +8,7 @@ use Rattle.c_tree.specs.declared.expr.Base.{Base}
 use Rattle.c_typing.specs.TypedForms.{same_base}
 use Rattle.c_typing.specs.Sources.{same_bases, param_faults, params_faults, declare_param, declare_params, void_params}
 use Rattle.c_types.proofs.DeclLaws.{again}
-use Rattle.c_types.proofs.ListLaws.{Walk, faults_in, behind}
+use Rattle.c_values.proofs.ListLaws.{Walk, faults_in, behind}
 
 -- a parameter without fault has a new name
 pub new_param : (h : Here) (name : List ℕ) (place : ℕ) → param_faults h (Some name) place ≡ []

@@ -1,10 +1,7 @@
-pub mod ArgLaws
-pub mod CheckLaws
 pub mod DeclLaws
 pub mod FunctionLaws
 pub mod HeadLaws
 pub mod LabelLaws
-pub mod ListLaws
 pub mod ScopeLaws
 pub mod SourceLaws
 pub mod StmtLaws

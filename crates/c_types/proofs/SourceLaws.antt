@@ -41,11 +41,11 @@ use Rattle.c_typing.specs.Sources.{
 }
 use Rattle.c_typing.proofs.SourceSound.{typed_sound}
 use Rattle.c_types.specs.declared.statements.Context.{Context}
-use Rattle.c_types.specs.Checks.{Checks}
+use Rattle.c_values.specs.Checks.{Checks}
 use Rattle.c_types.specs.StmtChecks.{inside_of}
 use Rattle.c_types.proofs.ScopeLaws.{function_left}
 use Rattle.c_types.specs.SourceChecks.{functions_of, numbers_of}
-use Rattle.c_types.proofs.ListLaws.{Walk, faults_in, seen_in}
+use Rattle.c_values.proofs.ListLaws.{Walk, faults_in, seen_in}
 
 -- the functions of the parts of a source
 abbrev pub functions : List (List ℕ) → Walk OuterHeld TypedFunction File

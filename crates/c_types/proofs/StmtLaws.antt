@@ -46,11 +46,11 @@ use Rattle.c_typing.specs.StmtFaults.{
 }
 use Rattle.c_typing.proofs.TypeLaws.{wanted_none}
 use Rattle.c_types.specs.declared.statements.Context.{Context}
-use Rattle.c_types.specs.Checks.{Stands}
+use Rattle.c_values.specs.Checks.{Stands}
 use Rattle.c_types.specs.StmtChecks.{inside_of, item_seen}
-use Rattle.c_types.proofs.CheckLaws.{in_right}
+use Rattle.c_values.proofs.CheckLaws.{in_right}
 use Rattle.c_types.proofs.ScopeLaws.{shut, stmt_closed, all_closed, items_closed, for_closed}
-use Rattle.c_types.proofs.ListLaws.{Walk, faults_in, seen_in, behind}
+use Rattle.c_values.proofs.ListLaws.{Walk, faults_in, seen_in, behind}
 
 -- statements in a function with this result
 abbrev pub statements : Base → Inside → Walk StmtHeld TypedStmt Here

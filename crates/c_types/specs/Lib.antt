@@ -1,4 +1,3 @@
-pub mod Checks
 pub mod Functions
 pub mod SourceChecks
 pub mod StmtChecks

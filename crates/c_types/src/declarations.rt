@@ -14,14 +14,14 @@ ghost use Rattle.c_typing.specs.TypedForms.{typed, converted, number_type as typ
 ghost use Rattle.c_typing.specs.Constants.{constant as value_of};
 ghost use Rattle.c_typing.specs.ExprFaults.{void_value, value_faults};
 ghost use Rattle.c_typing.specs.Declarations as spec;
-ghost use Rattle.c_types.specs.Checks.{Checks, Passes, Goes};
+ghost use Rattle.c_values.specs.Checks.{Checks, Passes, Goes};
 
-use crate::constants::constant;
-use crate::expr::{Checked, value};
-use crate::forms::{converted, number_type};
-use crate::scopes::Scopes;
 use c_tree::{Base, CellAt, Expr, Globals, Ident, Init, Size, TypedExpr, TypedInit, TypedVar, Var};
 use c_typing::{Meaning, TypeFault};
+use c_values::constants::constant;
+use c_values::expr::{Checked, value};
+use c_values::forms::{converted, number_type};
+use c_values::scopes::Scopes;
 use cov_base::{ARRAY_LIMIT, Refusal};
 use int_ops::{IntType, convert};
 use sqlite_items::Items;
@@ -98,7 +98,7 @@ fn fitting(length: Option<u64>, count: Option<u64>, place: u32) -> Checked<Optio
 }
 
 /// The length of a variable with its name at this place, where it is an array.
-#[tactic(auto, using(crate::proofs::CheckLaws::in_left, crate::proofs::CheckLaws::behind_none))]
+#[tactic(auto, using(c_values::proofs::CheckLaws::in_left, c_values::proofs::CheckLaws::behind_none))]
 fn length(
     alloc: Global,
     names: &Scopes,
@@ -155,7 +155,7 @@ fn well_initialised(size: &Size, init: &Init, place: u32) -> Checked<()>
 }
 
 /// A variable but for the parts of its initialiser; its length, where it is an array.
-#[tactic(auto, using(crate::proofs::CheckLaws::in_left, crate::proofs::CheckLaws::in_right))]
+#[tactic(auto, using(c_values::proofs::CheckLaws::in_left, c_values::proofs::CheckLaws::in_right))]
 fn declarator(alloc: Global, names: &Scopes, v: &Var) -> Checked<Option<u64>>
     ensures { Checks (λ n. n) (spec.declarator_faults names.now.scopes (var_view v.now))
         (spec.var_length names.now.scopes (var_view v.now)) result }
@@ -215,7 +215,7 @@ fn initialiser(alloc: Global, names: &Scopes, t: IntType, init: &Init) -> Checke
 }
 
 /// The typed form of a local variable, which is declared.
-#[tactic(auto, using(crate::proofs::CheckLaws::in_left, crate::proofs::DeclLaws::new_name))]
+#[tactic(auto, using(c_values::proofs::CheckLaws::in_left, crate::proofs::DeclLaws::new_name))]
 fn local(alloc: Global, names: &mut Scopes, v: &Var) -> Checked<TypedVar>
     ensures { Goes typed_var_view (spec.var_faults names.old (var_view v.now))
         (spec.typed_var names.old (var_view v.now)) (spec.declare_var cell.Local names.old (var_view v.now))
@@ -261,7 +261,7 @@ fn put(numbers: &mut Globals, number: i128, count: u64) -> Result<(), AllocError
 }
 
 /// The number that an initialiser gives to a cell of the type. The global's name has this place.
-#[tactic(auto, using(crate::proofs::CheckLaws::in_left, crate::proofs::CheckLaws::in_right))]
+#[tactic(auto, using(c_values::proofs::CheckLaws::in_left, c_values::proofs::CheckLaws::in_right))]
 fn number(alloc: Global, names: &Scopes, t: IntType, place: u32, e: &Expr) -> Checked<i128>
     ensures { Checks (λ n. n) (spec.number_faults names.now.scopes place (expr_view e.now))
         (spec.number names.now.scopes t (expr_view e.now)) result }
@@ -317,7 +317,7 @@ fn given_numbers(alloc: Global, names: &Scopes, v: &Var, numbers: &mut Globals) 
 }
 
 /// Declares a global, and puts the numbers that its cells begin with behind the others.
-#[tactic(auto, using(crate::proofs::CheckLaws::in_left, crate::proofs::DeclLaws::new_name))]
+#[tactic(auto, using(c_values::proofs::CheckLaws::in_left, crate::proofs::DeclLaws::new_name))]
 fn global(alloc: Global, names: &mut Scopes, v: &Var, numbers: &mut Globals) -> Checked<()>
     ensures { Goes (λ _. numbers.new) (spec.global_faults names.old (var_view v.now))
         (numbers.old ++ spec.numbers names.old (var_view v.now))

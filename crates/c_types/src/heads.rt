@@ -4,15 +4,15 @@ ghost use Rattle.std.specs.Prelude.{◌≡◌, ◌≤◌, ◌&&◌, [], length, 
 ghost use Rattle.c_tree.specs.TreeView.{param_view, head_view};
 ghost use Rattle.c_typing.specs.Names.{meaning};
 ghost use Rattle.c_typing.specs.Sources as spec;
-ghost use Rattle.c_types.specs.Checks.{Passes, Moves};
+ghost use Rattle.c_values.specs.Checks.{Passes, Moves};
 
 use crate::declarations::{not_void, undeclared};
-use crate::expr::Checked;
-use crate::forms::{number_type, same_base};
 use crate::functions::Functions;
-use crate::scopes::Scopes;
 use c_tree::{Base, Callee, CellAt, Head, Ident, Param};
 use c_typing::{Meaning, TypeFault};
+use c_values::expr::Checked;
+use c_values::forms::{number_type, same_base};
+use c_values::scopes::Scopes;
 use cov_base::{PARAMETER_LIMIT, Refusal};
 use sqlite_items::Items;
 use std::alloc::{AllocError, Global};
@@ -154,7 +154,7 @@ fn parameters(alloc: Global, names: &mut Scopes, params: &[Param]) -> Checked<()
 }
 
 /// Opens the scope of a function and declares its parameters.
-#[tactic(auto, using(crate::proofs::CheckLaws::in_left, crate::proofs::CheckLaws::in_right))]
+#[tactic(auto, using(c_values::proofs::CheckLaws::in_left, c_values::proofs::CheckLaws::in_right))]
 pub fn enter(alloc: Global, names: &mut Scopes, head: &Head) -> Checked<()>
     ensures moves { Moves (spec.own_faults names.old (head_view head.now))
         (spec.body_start names.old (head_view head.now)) result names.new }

@@ -3,14 +3,10 @@
 
 #![tactic(auto)]
 
-mod constants;
 mod declarations;
-mod expr;
-mod forms;
 mod functions;
 mod heads;
 mod labels;
-mod scopes;
 mod sources;
 mod statements;
 mod stmt_forms;

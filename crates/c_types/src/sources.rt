@@ -13,18 +13,18 @@ ghost use Rattle.c_typing.specs.declared.names.Meaning.TheVariants as meant;
 ghost use Rattle.c_typing.specs.Names.{is_declared, declare};
 ghost use Rattle.c_typing.specs.TypedForms.{number_type as type_of};
 ghost use Rattle.c_typing.specs.Sources as spec;
-ghost use Rattle.c_types.specs.Checks.{Checks, Passes, Goes, Moves};
+ghost use Rattle.c_values.specs.Checks.{Checks, Passes, Goes, Moves};
 ghost use Rattle.c_types.specs.SourceChecks.{functions_of, numbers_of};
 
 use crate::declarations::globals;
-use crate::expr::Checked;
-use crate::forms::{INT, number_type, same_base};
 use crate::functions::Functions;
 use crate::heads::{agreeing, declare_head, defining, enter, no_params};
-use crate::scopes::Scopes;
 use crate::statements::{outermost, stmts};
 use c_tree::{Base, Callee, Globals, Head, Ident, Outer, Param, Stmt, Tree, Typed, TypedFunction};
 use c_typing::{Meaning, TypeFault};
+use c_values::expr::Checked;
+use c_values::forms::{INT, number_type, same_base};
+use c_values::scopes::Scopes;
 use cov_base::Refusal;
 use int_ops::IntType;
 use sqlite_items::Items;
@@ -232,7 +232,7 @@ fn main_number(alloc: Global, functions: &Functions<'_>) -> Result<u32, AllocErr
 }
 
 /// The typed form of a source, or a fault.
-#[tactic(auto, using(crate::proofs::CheckLaws::in_left, crate::proofs::CheckLaws::in_right))]
+#[tactic(auto, using(c_values::proofs::CheckLaws::in_left, c_values::proofs::CheckLaws::in_right))]
 fn typed_form(alloc: Global, tree: &Tree) -> Checked<Typed>
     ensures { Checks typed_view (spec.type_faults (tree_view tree.now)) (spec.typed_of (tree_view tree.now)) result }
 {

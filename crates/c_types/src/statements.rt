@@ -16,20 +16,20 @@ ghost use Rattle.c_typing.specs.Declarations.{declare_vars, vars_faults, typed_v
 ghost use Rattle.c_typing.specs.Statements as spec;
 ghost use Rattle.c_typing.specs.StmtFaults as of;
 ghost use Rattle.c_typing.specs.StmtFaults.{Labels as Labelled};
-ghost use Rattle.c_types.specs.Checks.{Checks, Passes, Goes};
+ghost use Rattle.c_values.specs.Checks.{Checks, Passes, Goes};
 ghost use Rattle.c_types.specs.StmtChecks.{inside_of, item_seen, typed_item_seen, typed_head_seen, typed_other_seen, typed_stmts_seen, typed_items_seen};
 
-use crate::constants::constant;
 use crate::declarations::locals;
-use crate::expr::{Checked, expr, value};
-use crate::forms::{converted, number_type, promoted_base};
 use crate::labels::Labels;
-use crate::scopes::Scopes;
 use crate::stmt_forms::{braces, for_form, switch_form};
 use c_tree::{
     Base, Expr, ForHead, Stmt, SwitchItem, TypedExpr, TypedForHead, TypedStmt, TypedSwitchItem, Var,
 };
 use c_typing::TypeFault;
+use c_values::constants::constant;
+use c_values::expr::{Checked, expr, value};
+use c_values::forms::{converted, number_type, promoted_base};
+use c_values::scopes::Scopes;
 use cov_base::Refusal;
 use int_ops::convert;
 use sqlite_items::{Boxed, Items};
@@ -171,7 +171,7 @@ fn case_number(to: Base, value: Option<i128>, labels: &mut Labels, place: u32) -
 }
 
 /// That of a case with this expression.
-#[tactic(auto, using(crate::proofs::CheckLaws::in_left, crate::proofs::CheckLaws::behind_none))]
+#[tactic(auto, using(c_values::proofs::CheckLaws::in_left, c_values::proofs::CheckLaws::behind_none))]
 fn case_label(
     alloc: Global,
     names: &Scopes,
@@ -329,7 +329,7 @@ fn otherwise(
 
 /// That of an `if`.
 #[cycle(stmt)]
-#[tactic(auto, using(crate::proofs::CheckLaws::in_left, crate::proofs::CheckLaws::in_right))]
+#[tactic(auto, using(c_values::proofs::CheckLaws::in_left, c_values::proofs::CheckLaws::in_right))]
 fn if_statement(
     alloc: Global,
     names: &mut Scopes,
@@ -356,7 +356,7 @@ fn if_statement(
 
 /// That of a `while`.
 #[cycle(stmt)]
-#[tactic(auto, using(crate::proofs::CheckLaws::in_left, crate::proofs::CheckLaws::in_right))]
+#[tactic(auto, using(c_values::proofs::CheckLaws::in_left, c_values::proofs::CheckLaws::in_right))]
 fn while_loop(
     alloc: Global,
     names: &mut Scopes,
@@ -377,7 +377,7 @@ fn while_loop(
 
 /// That of a `do` with its `while` in this line.
 #[cycle(stmt)]
-#[tactic(auto, using(crate::proofs::CheckLaws::in_left, crate::proofs::CheckLaws::in_right))]
+#[tactic(auto, using(c_values::proofs::CheckLaws::in_left, c_values::proofs::CheckLaws::in_right))]
 fn do_loop(
     alloc: Global,
     names: &mut Scopes,
@@ -418,7 +418,7 @@ fn first_part(
 
 /// That of the parentheses of a `for`.
 #[cycle(stmt)]
-#[tactic(auto, using(crate::proofs::CheckLaws::in_left, crate::proofs::CheckLaws::in_right))]
+#[tactic(auto, using(c_values::proofs::CheckLaws::in_left, c_values::proofs::CheckLaws::in_right))]
 fn for_head(
     alloc: Global,
     names: &mut Scopes,
@@ -438,7 +438,7 @@ fn for_head(
 
 /// That of a `for`.
 #[cycle(stmt)]
-#[tactic(auto, using(crate::proofs::CheckLaws::in_left, crate::proofs::CheckLaws::in_right))]
+#[tactic(auto, using(c_values::proofs::CheckLaws::in_left, c_values::proofs::CheckLaws::in_right))]
 fn for_loop(
     alloc: Global,
     names: &mut Scopes,

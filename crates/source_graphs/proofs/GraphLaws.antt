@@ -12,7 +12,7 @@ use Rattle.c_grammar.specs.declared.fault.ParseFault.{ParseFault}
 use Rattle.c_parser.specs.Sources.{ParseRefuses}
 use Rattle.c_typing.specs.declared.fault.TypeFault.{TypeFault}
 use Rattle.c_typing.specs.Sources.{type_faults}
-use Rattle.c_types.specs.Checks.{Stands}
+use Rattle.c_values.specs.Checks.{Stands}
 use Rattle.c_lower.specs.declared.lowering.LowerFault.{LowerFault}
 use Rattle.c_lower.specs.Lowered.{unit_of}
 use Rattle.c_lower.specs.Refusals.{lower_fault, Refuses}

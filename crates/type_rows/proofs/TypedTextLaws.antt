@@ -6,7 +6,7 @@ use Rattle.c_tree.specs.Tree.{Tree}
 use Rattle.c_tree.specs.Typed.{Typed}
 use Rattle.c_typing.specs.declared.fault.TypeFault.{TypeFault}
 use Rattle.c_typing.specs.Sources.{type_faults, typed_of}
-use Rattle.c_types.specs.Checks.{Stands}
+use Rattle.c_values.specs.Checks.{Stands}
 use Rattle.front_rows.specs.declared.text_tree.TextFault.{TextFault}
 use Rattle.front_rows.specs.TextTree.{IsTreeOf, RefusesText}
 use Rattle.type_rows.specs.declared.typed_text.TypedFault.TheVariants as fault

@@ -1,5 +1,5 @@
 use Rattle.std.proofs.Common.{drop}
-use Rattle.c_types.proofs.ListLaws.{Left}
+use Rattle.c_values.proofs.ListLaws.{Left}
 use Rattle.c_types.proofs.DeclLaws.{globals}
 use Rattle.c_types.proofs.declarations.globals.Given as goal
 

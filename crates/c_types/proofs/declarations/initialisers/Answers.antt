@@ -1,8 +1,8 @@
 use Rattle.std.proofs.Common.{arith, sym, subst, ◌∙◌, [], drop, map}
 use Rattle.std.proofs.lemmas.Result.{err_from_is_err_and}
 use Rattle.c_tree.specs.TypedView.{typed_expr_view}
-use Rattle.c_types.specs.Checks.{Stands}
-use Rattle.c_types.proofs.ListLaws.{refused_at, ended}
+use Rattle.c_values.specs.Checks.{Stands}
+use Rattle.c_values.proofs.ListLaws.{refused_at, ended}
 use Rattle.c_types.proofs.DeclLaws.{initialisers, init_faults_are, inits_are}
 use Rattle.c_types.proofs.declarations.initialisers.Goals as goal
 

@@ -1,5 +1,5 @@
 use Rattle.std.proofs.Common.{drop}
-use Rattle.c_types.proofs.ListLaws.{Left}
+use Rattle.c_values.proofs.ListLaws.{Left}
 use Rattle.c_types.proofs.DeclLaws.{constants}
 use Rattle.c_types.proofs.declarations.listed_numbers.Given as goal
 

@@ -1,8 +1,8 @@
 use Rattle.std.proofs.Common.{arith, sym, ap, subst, ◌∙◌, [], map}
 use Rattle.std.proofs.lemmas.Result.{err_from_is_err_and}
 use Rattle.c_tree.specs.TypedView.{typed_var_view}
-use Rattle.c_types.specs.Checks.{Stands}
-use Rattle.c_types.proofs.ListLaws.{refused_at, ended}
+use Rattle.c_values.specs.Checks.{Stands}
+use Rattle.c_values.proofs.ListLaws.{refused_at, ended}
 use Rattle.c_types.proofs.DeclLaws.{locals, local_faults_are, locals_are, locals_end}
 use Rattle.c_types.proofs.declarations.locals.Goals as goal
 

@@ -1,6 +1,6 @@
 use Rattle.std.proofs.Common.{[], drop, map}
 use Rattle.c_tree.specs.TypedView.{typed_var_view}
-use Rattle.c_types.proofs.ListLaws.{Left}
+use Rattle.c_values.proofs.ListLaws.{Left}
 use Rattle.c_types.proofs.DeclLaws.{locals}
 use Rattle.c_types.proofs.declarations.locals.Given as goal
 

@@ -1,7 +1,7 @@
 use Rattle.std.proofs.Common.{arith, sym, subst, ◌∙◌, []}
 use Rattle.std.proofs.lemmas.Result.{err_from_is_err_and}
-use Rattle.c_types.specs.Checks.{Stands}
-use Rattle.c_types.proofs.ListLaws.{refused_at, ended}
+use Rattle.c_values.specs.Checks.{Stands}
+use Rattle.c_values.proofs.ListLaws.{refused_at, ended}
 use Rattle.c_types.proofs.HeadLaws.{parameters, params_faults_are, params_end}
 use Rattle.c_types.proofs.heads.parameters.Goals as goal
 

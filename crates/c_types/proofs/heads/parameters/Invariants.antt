@@ -1,5 +1,5 @@
 use Rattle.std.proofs.Common.{[], drop}
-use Rattle.c_types.proofs.ListLaws.{Left}
+use Rattle.c_values.proofs.ListLaws.{Left}
 use Rattle.c_types.proofs.HeadLaws.{parameters}
 use Rattle.c_types.proofs.heads.parameters.Given as goal
 

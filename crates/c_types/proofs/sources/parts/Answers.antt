@@ -3,8 +3,8 @@ use Rattle.std.proofs.lemmas.Result.{err_from_is_err_and}
 use Rattle.c_tree.specs.TreeView.{outer_view}
 use Rattle.c_tree.specs.TypedView.{function_view}
 use Rattle.c_typing.specs.Sources.{File, typed_functions}
-use Rattle.c_types.specs.Checks.{Stands}
-use Rattle.c_types.proofs.ListLaws.{refused_at, ended}
+use Rattle.c_values.specs.Checks.{Stands}
+use Rattle.c_values.proofs.ListLaws.{refused_at, ended}
 use Rattle.c_types.proofs.SourceLaws.{functions, numbers, outers_faults_are, functions_are, numbers_are}
 use Rattle.c_types.proofs.sources.parts.Goals as goal
 

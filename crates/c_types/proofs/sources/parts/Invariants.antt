@@ -1,6 +1,6 @@
 use Rattle.std.proofs.Common.{[], length, drop, map}
 use Rattle.c_tree.specs.TypedView.{function_view}
-use Rattle.c_types.proofs.ListLaws.{Left}
+use Rattle.c_values.proofs.ListLaws.{Left}
 use Rattle.c_types.proofs.SourceLaws.{functions, numbers}
 use Rattle.c_types.proofs.sources.parts.Given as goal
 

@@ -3,10 +3,10 @@ use Rattle.std.proofs.lemmas.Result.{err_from_is_err_and}
 use Rattle.c_tree.specs.TreeView.{expr_view, stmt_view, for_view, stmts_of, items_of}
 use Rattle.c_tree.specs.TypedView.{typed_expr_view, typed_stmt_view, typed_stmts_of, typed_items_of}
 use Rattle.c_typing.specs.StmtFaults.{no_labels}
-use Rattle.c_types.specs.Checks.{Stands}
+use Rattle.c_values.specs.Checks.{Stands}
 use Rattle.c_types.specs.StmtChecks.{inside_of, item_seen, typed_item_seen, typed_head_seen, typed_stmts_seen, typed_items_seen}
 use Rattle.c_types.proofs.ScopeLaws.{stmt_open, all_open, head_open, items_open}
-use Rattle.c_types.proofs.ListLaws.{refused_at, ended}
+use Rattle.c_values.proofs.ListLaws.{refused_at, ended}
 use Rattle.c_types.proofs.StmtLaws.{
   Among,
   statements,

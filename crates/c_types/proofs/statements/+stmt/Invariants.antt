@@ -4,7 +4,7 @@ use Rattle.c_tree.specs.TypedView.{typed_stmt_view}
 use Rattle.c_tree.specs.Levels.{stmt_levels, stmts_levels, other_levels, head_levels, item_levels, items_levels}
 use Rattle.c_typing.specs.StmtFaults.{no_labels}
 use Rattle.c_types.specs.StmtChecks.{inside_of, item_seen, typed_item_seen}
-use Rattle.c_types.proofs.ListLaws.{Left}
+use Rattle.c_values.proofs.ListLaws.{Left}
 use Rattle.c_types.proofs.StmtLaws.{statements, switched_items}
 use Rattle.c_types.proofs.statements.+stmt.Given as goal
 

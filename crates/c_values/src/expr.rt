@@ -7,7 +7,7 @@ ghost use Rattle.c_typing.specs.declared.names.Meaning.TheVariants as meant;
 ghost use Rattle.c_typing.specs.Names.{meaning};
 ghost use Rattle.c_typing.specs.TypedForms as spec;
 ghost use Rattle.c_typing.specs.ExprFaults as of;
-ghost use Rattle.c_types.specs.Checks.{Checks, Passes, turned, pair_view, args_view};
+ghost use Rattle.c_values.specs.Checks.{Checks, Passes, turned, pair_view, args_view};
 
 use crate::forms;
 use crate::scopes::Scopes;

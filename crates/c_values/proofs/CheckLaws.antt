@@ -8,7 +8,7 @@ use Rattle.c_typing.specs.declared.fault.TypeFault.{TypeFault}
 use Rattle.c_tree.specs.declared.expr.Base.{Base}
 use Rattle.c_typing.specs.TypedForms.{is_void}
 use Rattle.c_typing.specs.ExprFaults.{counted, wanted, sides}
-use Rattle.c_types.specs.Checks.{Stands, Checks}
+use Rattle.c_values.specs.Checks.{Stands, Checks}
 
 pub in_left : (fs gs : List TypeFault) (e : Refusal TypeFault) → Stands fs e → Stands (fs ++ gs) e
 in_left fs gs (refusal.Refused f) h = Contains-append_left fs gs f h

@@ -4,7 +4,7 @@ ghost use Rattle.std.specs.Prelude.{◌≡◌, drop, IfOk};
 ghost use Rattle.c_tree.specs.declared.expr.Base.TheVariants as base;
 ghost use Rattle.c_tree.specs.TypedExpr.{TypedExpr as Plain, TypedKind as PlainKind};
 ghost use Rattle.c_tree.specs.TypedView.{typed_expr_view};
-ghost use Rattle.c_types.specs.Checks.{passed_first, args_view};
+ghost use Rattle.c_values.specs.Checks.{passed_first, args_view};
 ghost use Rattle.c_tree.specs.TypedParts.{class, base_of};
 ghost use Rattle.c_typing.specs.TypedForms as spec;
 

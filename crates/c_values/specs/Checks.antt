@@ -10,8 +10,8 @@ use Rattle.c_typing.specs.declared.fault.TypeFault.{TypeFault}
 use Rattle.c_typing.specs.declared.fault.TypeFault.TheVariants as fault
 use Rattle.c_typing.specs.Names.{Here}
 use Rattle.c_typing.specs.TypedForms.{converted}
-use Rattle.c_types.specs.declared.expr.Designated.{Designated}
-use Rattle.c_types.specs.declared.expr.Designated.TheVariants as designated
+use Rattle.c_values.specs.declared.expr.Designated.{Designated}
+use Rattle.c_values.specs.declared.expr.Designated.TheVariants as designated
 
 -- a refusal names a fault that stands, or memory ran out
 abbrev pub Stands : List TypeFault → Refusal TypeFault → Type 0

@@ -22,8 +22,8 @@ use Rattle.std.specs.Prelude.{get_or}
 use Rattle.std.proofs.lemmas.List.{append_assoc, append-nil, map-append, drop_more, drop_all}
 use Rattle.cov_base.specs.declared.refusal.Refusal.{Refusal}
 use Rattle.c_typing.specs.declared.fault.TypeFault.{TypeFault}
-use Rattle.c_types.specs.Checks.{Stands}
-use Rattle.c_types.proofs.CheckLaws.{in_left, in_right}
+use Rattle.c_values.specs.Checks.{Stands}
+use Rattle.c_values.proofs.CheckLaws.{in_left, in_right}
 
 -- how an element is checked where the check stands: its faults, what is made of it, and where the check stands behind it
 pub record Walk (X V H : Type 0) : Type 0 where

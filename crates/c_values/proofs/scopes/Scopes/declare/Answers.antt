@@ -1,6 +1,6 @@
 use Rattle.std.proofs.Common.{map, reverse}
-use Rattle.c_types.proofs.ScopeLaws.{declared_here}
-use Rattle.c_types.proofs.scopes.Scopes.declare.Goals as goal
+use Rattle.c_values.proofs.NameLaws.{declared_here}
+use Rattle.c_values.proofs.scopes.Scopes.declare.Goals as goal
 
 pub returns : goal.returns
 returns c =

@@ -2,9 +2,9 @@ use Rattle.std.proofs.Common.{◌+◌, ◌*◌, max, [], drop, map}
 use Rattle.c_tree.specs.TreeView.{expr_view, exprs_of}
 use Rattle.c_tree.specs.TypedView.{typed_expr_view}
 use Rattle.c_tree.specs.Levels.{levels, args_levels}
-use Rattle.c_types.proofs.ListLaws.{Left}
-use Rattle.c_types.proofs.ArgLaws.{arguments}
-use Rattle.c_types.proofs.expr.+expr.Given as goal
+use Rattle.c_values.proofs.ListLaws.{Left}
+use Rattle.c_values.proofs.ArgLaws.{arguments}
+use Rattle.c_values.proofs.expr.+expr.Given as goal
 
 abbrev pub decreases-expr : goal.decreases-expr
 decreases-expr l = 4 * levels (expr_view l.e.now)

@@ -21,9 +21,9 @@ use Rattle.c_tree.specs.Levels.{levels, args_levels}
 use Rattle.c_typing.specs.Names.{Scope}
 use Rattle.c_typing.specs.TypedForms.{typed, typed_args, passed, called}
 use Rattle.c_typing.specs.ExprFaults.{at, count, faults, value_faults, call_faults, args_faults, sides, sides_faults}
-use Rattle.c_types.specs.Checks.{Stands, passed_first}
-use Rattle.c_types.proofs.CheckLaws.{in_left}
-use Rattle.c_types.proofs.ListLaws.{Walk, Left, Whole, faults_in, seen_in, refused_at}
+use Rattle.c_values.specs.Checks.{Stands, passed_first}
+use Rattle.c_values.proofs.CheckLaws.{in_left}
+use Rattle.c_values.proofs.ListLaws.{Walk, Left, Whole, faults_in, seen_in, refused_at}
 
 one_view : (e : Held) → fold-Expr Kind Expr kind_step expr_step e ≡ expr_view e
 one_view e = fold_out-Expr Kind Expr kind_step expr_step e

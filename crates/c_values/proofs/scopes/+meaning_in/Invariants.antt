@@ -1,5 +1,5 @@
 use Rattle.std.proofs.Common.{length}
-use Rattle.c_types.proofs.scopes.+meaning_in.Given as goal
+use Rattle.c_values.proofs.scopes.+meaning_in.Given as goal
 
 abbrev pub decreases-meaning_in : goal.decreases-meaning_in
 decreases-meaning_in l = length l.scopes.now

@@ -5,8 +5,8 @@ use Rattle.c_tree.specs.TypedView.{typed_expr_view}
 use Rattle.c_typing.specs.Names.{meaning}
 use Rattle.c_typing.specs.TypedForms.{typed, typed_kind, typed_args, called}
 use Rattle.c_typing.specs.ExprFaults.{count, kind_faults, call_faults, args_faults}
-use Rattle.c_types.specs.Checks.{Checks, passed_first, args_view}
-use Rattle.c_types.proofs.ArgLaws.{
+use Rattle.c_values.specs.Checks.{Checks, passed_first, args_view}
+use Rattle.c_values.proofs.ArgLaws.{
   call_view,
   arguments,
   refused_call,
@@ -17,8 +17,8 @@ use Rattle.c_types.proofs.ArgLaws.{
   next_param,
   all_passed,
 }
-use Rattle.c_types.proofs.ListLaws.{goes_on, one_more, ended}
-use Rattle.c_types.proofs.expr.+expr.Goals as goal
+use Rattle.c_values.proofs.ListLaws.{goes_on, one_more, ended}
+use Rattle.c_values.proofs.expr.+expr.Goals as goal
 
 pub call-returns-in_err-callee : goal.call-returns-in_err-callee
 call-returns-in_err-callee t c =

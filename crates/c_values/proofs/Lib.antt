@@ -1,0 +1,4 @@
+pub mod ArgLaws
+pub mod CheckLaws
+pub mod ListLaws
+pub mod NameLaws
