@@ -15,7 +15,7 @@ import tempfile
 
 from scratch import TREE_RT, best, gcc_syntax, memory, program_in, statements
 
-CRATES = ("cov_base", "int_ops", "c_tokens", "c_tree", "c_grammar", "c_syntax", "c_exprs", "c_parser", "c_typing", "c_types")
+CRATES = ("cov_base", "int_ops", "c_tokens", "c_tree", "c_grammar", "c_syntax", "c_exprs", "c_parser", "c_typing", "c_values", "c_types")
 USES = " ".join(CRATES) + " sqlite_items indexmap"
 RUNS = 9
 LEAST = "int main(void){}"

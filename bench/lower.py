@@ -17,7 +17,7 @@ import tempfile
 
 from scratch import TREE_RT, best, gcc_syntax, least_stack, memory, program_in
 
-CRATES = ("cov_base", "int_ops", "c_tokens", "c_tree", "c_grammar", "c_syntax", "c_exprs", "c_parser", "c_typing", "c_types", "stack_ops",
+CRATES = ("cov_base", "int_ops", "c_tokens", "c_tree", "c_grammar", "c_syntax", "c_exprs", "c_parser", "c_typing", "c_values", "c_types", "stack_ops",
           "c_meaning", "flow_graph", "c_lower")
 USES = " ".join(CRATES) + " sqlite_items indexmap"
 RUNS = 5

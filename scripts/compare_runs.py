@@ -19,7 +19,7 @@ import tempfile
 sys.path.insert(0, os.path.join(os.path.dirname(os.path.dirname(os.path.abspath(__file__))), "bench"))
 from scratch import TOP, program_in  # noqa: E402
 
-CRATES = ("cov_base", "int_ops", "c_tokens", "c_tree", "c_grammar", "c_syntax", "c_exprs", "c_parser", "c_typing", "c_types", "stack_ops",
+CRATES = ("cov_base", "int_ops", "c_tokens", "c_tree", "c_grammar", "c_syntax", "c_exprs", "c_parser", "c_typing", "c_values", "c_types", "stack_ops",
           "c_meaning", "flow_graph", "c_lower", "lower_agrees", "fake_arcs", "prune_agrees", "source_graphs")
 USES = "cov_base int_ops c_tree stack_ops flow_graph source_graphs"
 TYPES = ["_Bool", "char", "signed char", "unsigned char", "short", "unsigned short", "int", "unsigned", "long", "unsigned long"]
