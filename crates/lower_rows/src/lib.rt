@@ -2,6 +2,7 @@
 #![tactic(auto)]
 
 mod lowered_text;
+pub mod runs;
 #[cfg(test)]
 mod tests;
 

@@ -2,15 +2,14 @@
 
 mod graphs;
 mod interpreter;
-mod runs;
 mod tables;
 
+use crate::runs::{RUNS, Row};
 use crate::{LoweredFault, lowered_of_text};
 use c_lower::LowerFault;
 use cov_base::{Refusal, SOURCE_LIMIT};
 use flow_graph::{Block, Graph};
 use interpreter::{Stop, run};
-use runs::Row;
 use std::alloc::{AllocError, Global};
 use std::process::Abort;
 use std::test::Fail;
@@ -177,7 +176,7 @@ fn assert_run(rt: &(impl AllocGlobal + Abort), row: &Row) -> Result<(), Fail> {
 
 #[test]
 fn runs_come_to_these_endings(rt: HostRuntime) -> Result<(), Fail> {
-    for row in &runs::RUNS {
+    for row in &RUNS {
         assert_run(&rt, row)?;
     }
     Ok(())

@@ -12,6 +12,7 @@ pub struct Row {
     pub ending: Outcome,
 }
 
+/// Runs of sources, each form of statement, operator, trap and ending among them.
 pub const RUNS: [Row; 30] = [
     Row {
         text: b"int main(void) {\nint n = 0;\nwhile (getchar() == 'a')\nn++;\nreturn n;\n}\n",
