@@ -2,8 +2,8 @@
 
 #![tactic(auto)]
 
-mod run_text;
+mod running;
 #[cfg(test)]
 mod tests;
 
-pub use run_text::{TextRun, run_text};
+pub use running::{TextRun, run_text};
