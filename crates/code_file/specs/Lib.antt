@@ -5,3 +5,4 @@ pub mod Checking
 pub mod Decoding
 pub mod Told
 pub mod Laws
+pub mod FaultWords

@@ -51,6 +51,14 @@ impl Checked {
     {
         &self.code
     }
+
+    /// The code, for whoever changes it.
+    pub fn into_code(self) -> Code
+        ensures value { result ≡ self }
+        ensures kept { code_fault result ≡ None }
+    {
+        self.code
+    }
 }
 
 /// The fault of a broken rule at its place.

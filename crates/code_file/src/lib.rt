@@ -4,6 +4,7 @@
 
 pub mod checked;
 pub mod fault;
+mod fault_words;
 pub mod head;
 pub mod laws;
 pub mod op_items;

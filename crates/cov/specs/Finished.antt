@@ -4,7 +4,8 @@ use Rattle.std.specs.Global.{Global}
 use Rattle.cov_outside.specs.Outside.{Rose}
 use Rattle.cov_program.specs.declared.answers.End.{End}
 use Rattle.cov_program.specs.Answers.{IsTold, line_of, status_of}
-use Rattle.cov_program.specs.Performs.{Observed, Performs, Stands}
+use Rattle.cov_program.specs.Outside.{Observed}
+use Rattle.cov_program.specs.Performs.{Performs, Stands}
 
 -- Where there are no words, the line of the answer is told, and nothing else changes.
 pub record TellsOnly {S K F : Type 0} (before after : Observed) (end : End) (input input' : S) (output output' : K) (folder folder' : F) : Type 0 where

@@ -37,22 +37,30 @@ fn finish<S: Source, K: Sink, E: Sink, F: Folder>(
 ) -> u8
     ensures { Finishes words
         (record {
-          files = F.files folder.old;
-          output = K.written out.old;
+          outside = record {
+            files = F.files folder.old;
+            input = S.remaining input.old;
+            output = K.written out.old;
+            folder_faults = F.faults folder.old;
+            input_faults = S.faults input.old;
+            output_faults = K.faults out.old;
+            output_wants = K.wants out.old;
+          };
           errors = E.written err.old;
-          folder_faults = F.faults folder.old;
-          output_faults = K.faults out.old;
-          output_wants = K.wants out.old;
           error_faults = E.faults err.old;
           error_wants = E.wants err.old;
         })
         (record {
-          files = F.files folder.new;
-          output = K.written out.new;
+          outside = record {
+            files = F.files folder.new;
+            input = S.remaining input.new;
+            output = K.written out.new;
+            folder_faults = F.faults folder.new;
+            input_faults = S.faults input.new;
+            output_faults = K.faults out.new;
+            output_wants = K.wants out.new;
+          };
           errors = E.written err.new;
-          folder_faults = F.faults folder.new;
-          output_faults = K.faults out.new;
-          output_wants = K.wants out.new;
           error_faults = E.faults err.new;
           error_wants = E.wants err.new;
         })

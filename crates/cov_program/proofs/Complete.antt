@@ -1,14 +1,19 @@
--- With both files in order and no fault, `cover` is done or out of memory.
-use Rattle.std.proofs.Common.{◌≡◌, inl, inr, ℕ, List, length, string_bytes, refl, sym, ap, ◌∙◌, subst, arith}
-use Rattle.std.specs.Prelude.{Option, Some, None, IfSome}
+-- With the outside in order and no fault, a command is done or out of memory.
+use Rattle.std.proofs.Common.{◌≡◌, inl, inr, ℕ, ◌<◌, List, length, string_bytes, refl, sym, ap, ◌∙◌, subst, arith}
+use Rattle.std.specs.Prelude.{Option, Some, None, IfSome, IsSomeAnd}
+use Rattle.cov_base.specs.Limits.{source_limit}
+use Rattle.cov_base.specs.declared.refusal.Refusal.TheVariants as refusal
+use Rattle.cov_outside.specs.Outside.{Files}
+use Rattle.first_form.specs.FirstForm.{IsFirstForm}
+use Rattle.source_graphs.specs.declared.graphs.SourceFault.{SourceFault}
+use Rattle.source_graphs.specs.SourceGraphs.{RefusesSource}
+use Rattle.source_graphs.proofs.Acceptance.{refused_for_memory}
 use Rattle.cov_program.specs.declared.answers.End.{End}
 use Rattle.cov_program.specs.declared.answers.End.TheVariants as answer
-use Rattle.first_form.specs.FirstForm.{IsFirstForm}
-use Rattle.cov_outside.specs.Outside.{Files}
-use Rattle.cov_program.specs.declared.answers.UsageFault.TheVariants as usage_fault
 use Rattle.cov_program.specs.declared.answers.SourceFault.TheVariants as source_fault
-use Rattle.cov_program.specs.Commands.{Command, Cover, HasReason, IsReady, IsDone}
-use Rattle.cov_program.specs.Cover.{HasSource, IsLoaded, IsOver, IsFormless, IsMissing, IsTooLong, HasCoverReason, IsCoverReady, IsCoverDone}
+use Rattle.cov_program.specs.Loaded.{IsLoaded, IsOver}
+use Rattle.cov_program.specs.Cover.{HasSource, IsFormless, IsMissing, IsTooLong, HasCoverReason, IsCoverReady, IsCoverDone}
+use Rattle.cov_program.specs.Build.{HasBuildReason, IsBuildReady, IsBuildDone, IsRefused}
 
 -- a file that is there isn't missing
 there : (files : Files) (name bytes : List ℕ) → files name ≡ Some bytes → files name ≡ None → ⊥
@@ -38,22 +43,52 @@ not_too_long : (files : Files) (source input name : List ℕ) → IsCoverReady f
 not_too_long files source input name ready (inl m) = within files source ready.compiled.0 _ ready.compiled.2.loaded m.1
 not_too_long files source input name ready (inr m) = within files input ready.bytes _ ready.loaded m.2
 
--- where nothing else may be answered, the answer is Done or NoMemory
-done : (files : Files) (source input : List ℕ) (end : End) → HasCoverReason files source input end → IsCoverReady files source input
+-- where nothing else may be answered, the answer of `cover` is Done or NoMemory
+covered : (files : Files) (source input : List ℕ) (end : End) → HasCoverReason files source input end → IsCoverReady files source input
     → (end ≡ answer.WriteFault → ⊥) → (end ≡ answer.FolderFault → ⊥) → IsCoverDone end
-done files source input answer.Done h ready w f = tt
-done files source input (answer.Usage usage_fault.NotBuilt) h ready w f = absurd h
-done files source input (answer.SourceRefused source_fault.NotFirst) h ready w f = absurd (formed files source ready.compiled h)
-done files source input (answer.Missing name) h ready w f = absurd (not_missing files source input (string_bytes name) ready h)
-done files source input (answer.TooLong name) h ready w f = absurd (not_too_long files source input (string_bytes name) ready h)
-done files source input answer.WriteFault h ready w f = absurd (w refl)
-done files source input answer.FolderFault h ready w f = absurd (f refl)
-done files source input answer.NoMemory h ready w f = tt
+covered files source input answer.Done h ready w f = tt
+covered files source input (answer.SourceRefused source_fault.NotFirst) h ready w f = absurd (formed files source ready.compiled h)
+covered files source input (answer.SourceRefused (source_fault.NotAccepted fault)) h ready w f = absurd h
+covered files source input (answer.Missing name) h ready w f = absurd (not_missing files source input (string_bytes name) ready h)
+covered files source input (answer.TooLong name) h ready w f = absurd (not_too_long files source input (string_bytes name) ready h)
+covered files source input answer.WriteFault h ready w f = absurd (w refl)
+covered files source input answer.FolderFault h ready w f = absurd (f refl)
+covered files source input answer.NoMemory h ready w f = tt
+covered files source input _ h ready w f = absurd h
 
--- so for each command, where the files are told
-pub complete : (files : Option Files) (end : End) (W F : Type 0) (command : Command) → (end ≡ answer.WriteFault → W) → (end ≡ answer.FolderFault → F)
-    → IfSome files (λ files. HasReason files end command)
-    → IfSome files (λ files. IsReady files command → (W → ⊥) → (F → ⊥) → IsDone end command)
-complete None end W F command w f h = tt
-complete (Some files) end W F (Cover source input) w f h =
-    λ ready no_write no_folder. done files source input end h ready (λ e. no_write (w e)) (λ e. no_folder (f e))
+-- so where the files are told
+pub cover_done : (files : Option Files) (source input : List ℕ) (end : End) (W F : Type 0) → (end ≡ answer.WriteFault → W) → (end ≡ answer.FolderFault → F)
+    → IfSome files (λ files. HasCoverReason files source input end) → IsSomeAnd files (λ files. IsCoverReady files source input)
+    → (W → ⊥) × (F → ⊥) → IsCoverDone end
+cover_done None source input end W F w f h ready none = absurd ready
+cover_done (Some files) source input end W F w f h ready none =
+    covered files source input end h ready (λ e. none.0 (w e)) (λ e. none.1 (f e))
+
+-- no fault stands in an accepted source
+not_refused : (files : Files) (source : List ℕ) (fault : SourceFault) → IsBuildReady files source → IsRefused files source fault → ⊥
+not_refused files source fault ready refused =
+    let e : Some refused.bytes ≡ Some ready.bytes = sym refused.loaded.there ∙ ready.there in
+    let f : refused.bytes ≡ ready.bytes = cc in
+    let stands = subst (λ bytes. RefusesSource bytes (refusal.Refused fault)) f refused.refuses in
+    let wrong = refused_for_memory ready.bytes (refusal.Refused fault) ready.accepted stands in
+    absurd (cc)
+
+-- where nothing else may be answered, the answer of `build` is Done or NoMemory
+made : (files : Files) (source : List ℕ) (end : End) → HasBuildReason files source end → IsBuildReady files source
+    → (end ≡ answer.FolderFault → ⊥) → IsBuildDone end
+made files source answer.Done h ready f = tt
+made files source (answer.SourceRefused source_fault.NotFirst) h ready f = absurd h
+made files source (answer.SourceRefused (source_fault.NotAccepted fault)) h ready f = absurd (not_refused files source fault ready h)
+made files source (answer.Missing name) h ready f = absurd (there files source ready.bytes ready.there h.1)
+made files source (answer.TooLong name) h ready f =
+    absurd (within files source ready.bytes source_limit (record { there = ready.there; fits = ready.accepted.fits }) h.1)
+made files source answer.FolderFault h ready f = absurd (f refl)
+made files source answer.NoMemory h ready f = tt
+made files source _ h ready f = absurd h
+
+-- so where the files are told
+pub build_done : (files : Option Files) (source : List ℕ) (end : End) (F : Type 0) → (end ≡ answer.FolderFault → F)
+    → IfSome files (λ files. HasBuildReason files source end) → IsSomeAnd files (λ files. IsBuildReady files source)
+    → (F → ⊥) → IsBuildDone end
+build_done None source end F f h ready none = absurd ready
+build_done (Some files) source end F f h ready none = made files source end h ready (λ e. none (f e))

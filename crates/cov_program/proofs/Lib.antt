@@ -1,5 +1,6 @@
 pub mod WriteLaws
 pub mod WordsLaws
 pub mod Prepared
+pub mod BuildLaws
 pub mod Complete
 pub mod Asked

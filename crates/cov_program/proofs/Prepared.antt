@@ -5,7 +5,7 @@ use Rattle.std.specs.Global.{Global}
 use Rattle.cov_base.specs.Limits.{source_limit, file_limit}
 use Rattle.cov_outside.specs.Outside.{Files}
 use Rattle.first_form.specs.Steps.{IsCovered}
-use Rattle.cov_program.specs.Cover.{IsLoaded}
+use Rattle.cov_program.specs.Loaded.{IsLoaded}
 use Rattle.cov_program.specs.Steps.{Prepares}
 
 pub prepared : (files now : Option Files) (source_name input_name : List ℕ) (source input text : Vec ℕ Global)

@@ -1,14 +1,13 @@
--- Writing a text in two pieces.
-use Rattle.std.proofs.Common.{◌≡◌, ℕ, ◌+◌, ◌≤◌, List, ◌++◌, length, take, refl, sym, ◌∙◌, ap, append_assoc, append-nil, arith}
+-- Writing a text in pieces.
+use Rattle.std.proofs.Common.{◌≡◌, true, false, cond, ℕ, ◌+◌, ◌≤◌, List, ◌++◌, length, take, refl, sym, ◌∙◌, ap, append_assoc, append-nil, arith}
 use Rattle.std.proofs.Math.Seq.{take-append-add, take-length}
 use Rattle.std.proofs.lemmas.List.{take-append-le, length-append}
 use Rattle.std.specs.Prelude.{Option, Some, None, Result, Ok, Err, IfSome, [], ◌∷◌}
-use Rattle.cov_outside.specs.Outside.{WritesAll}
+use Rattle.cov_outside.specs.Outside.{HasCause, WritesAll}
 use Rattle.cov_outside.specs.declared.faults.SinkFault.{SinkFault}
 use Rattle.cov_outside.specs.declared.faults.SinkFault.TheVariants as sink_fault
 use Rattle.cov_program.specs.declared.answers.End.{End}
-use Rattle.cov_program.specs.declared.answers.End.TheVariants as answer
-use Rattle.cov_program.specs.Answers.{IsTold, line_of, words_of, name_of}
+use Rattle.cov_program.specs.Answers.{IsTold, is_silent, whole_line, line_of}
 
 -- where the first piece was cut, a front of both pieces was written
 pub cut_first : (before after : Option (List ℕ)) (fault : SinkFault) (xs ys : List ℕ) → WritesAll before after (Err fault) xs → WritesAll before after (Err fault) (xs ++ ys)
@@ -54,20 +53,21 @@ told_of (Some before) after (Err sink_fault.NoMemory) text Fault Want fault want
   whole = λ no_fault no_want. absurd (no_want (want refl));
 }
 
--- the line of an answer other than Done is its words, the name in it and a newline
-pub line_parts : (end : End) → (end ≡ answer.Done → ⊥) → line_of end ≡ words_of end ++ (name_of end ++ 10 ∷ [])
+-- an answer that isn't silent has its whole line
+pub line_loud : (end : End) → is_silent end ≡ false → line_of end ≡ whole_line end
 unfolding line_of
-line_parts answer.Done h = absurd (h refl)
-line_parts (answer.Usage fault) h = refl
-line_parts (answer.SourceRefused fault) h = refl
-line_parts (answer.Missing name) h = refl
-line_parts (answer.TooLong name) h = refl
-line_parts answer.WriteFault h = refl
-line_parts answer.FolderFault h = refl
-line_parts answer.NoMemory h = refl
+line_loud end e = ap (λ b. cond b [] (whole_line end)) e
 
--- the line of Done is empty
-pub line_of-Done : (told : Option (List ℕ)) (done : Unit {0}) → WritesAll told told (Ok done) (line_of answer.Done)
+-- one that is silent has none
+pub line_silent : (end : End) → is_silent end ≡ true → line_of end ≡ []
 unfolding line_of
-line_of-Done None done = refl
-line_of-Done (Some before) done = ap Some (sym (append-nil before))
+line_silent end e = ap (λ b. cond b [] (whole_line end)) e
+
+-- nothing was written
+pub nothing_written : (told : Option (List ℕ)) (done : Unit {0}) → WritesAll told told (Ok done) []
+nothing_written None done = refl
+nothing_written (Some before) done = ap Some (sym (append-nil before))
+
+-- what stays as it was has no fault
+pub no_cause : (count : ℕ) (fault : Type 0) → (fault → ⊥) → HasCause count count fault
+no_cause count fault never = record { later = omega arith; stays = λ e. e; risen = λ h. absurd (never h) }

@@ -1,7 +1,9 @@
--- What an answer of the top call says by itself: its exit status and its line. Each answer has an equation of its own, and each fault
--- inside one, so that a new one without a rule doesn't check. A command that reads standard input will bring the answer ReadFault: it
--- takes the status 120, the words `cov: read fault` and no name, and stands beside FolderFault.
-use Rattle.std.specs.Prelude.{◌≡◌, ℕ, ◌≤◌, List, [], ◌∷◌, ◌++◌, length, take, codes, Option, Some, string_bytes}
+-- What an answer of the top call says by itself: its exit status and its line.
+use Rattle.std.specs.Prelude.{◌≡◌, ℕ, ◌≤◌, Bool, true, false, cond, List, [], ◌∷◌, ◌++◌, length, take, codes, decimal, Option, Some, None, string_bytes}
+use Rattle.stack_ops.specs.declared.endings.Trap.{Trap}
+use Rattle.stack_ops.specs.declared.endings.Trap.TheVariants as trap
+use Rattle.code_file.specs.FaultWords as code_words
+use Rattle.source_graphs.specs.FaultWords as source_words
 use Rattle.cov_program.specs.declared.answers.End.{End}
 use Rattle.cov_program.specs.declared.answers.End.TheVariants as answer
 use Rattle.cov_program.specs.declared.answers.UsageFault.TheVariants as usage_fault
@@ -18,62 +20,86 @@ pub record IsTold (text before : List ℕ) (after : Option (List ℕ)) (fault wa
   pub front : IsFront text before after
   pub whole : (fault → ⊥) → (want → ⊥) → after ≡ Some (before ++ text)
 
--- the answer says that the words are no command
+-- the answer says that the words are no command that is built
 abbrev pub IsUsage : End → Type 0
-IsUsage answer.Done = ⊥
-IsUsage (answer.Usage usage_fault.NotBuilt) = Unit {0}
-IsUsage (answer.SourceRefused source_fault.NotFirst) = ⊥
-IsUsage (answer.Missing name) = ⊥
-IsUsage (answer.TooLong name) = ⊥
-IsUsage answer.WriteFault = ⊥
-IsUsage answer.FolderFault = ⊥
-IsUsage answer.NoMemory = ⊥
+IsUsage (answer.Usage fault) = Unit {0}
+IsUsage _ = ⊥
 
 -- the exit status of an answer
 abbrev pub status_of : End → ℕ
 status_of answer.Done = 0
-status_of (answer.Usage usage_fault.NotBuilt) = 120
-status_of (answer.SourceRefused source_fault.NotFirst) = 120
-status_of (answer.Missing name) = 120
-status_of (answer.TooLong name) = 120
-status_of answer.WriteFault = 120
-status_of answer.FolderFault = 120
+status_of (answer.Ran status) = status
+status_of (answer.Trapped t line) = 121
+status_of (answer.OutOfTurns turns) = 122
 status_of answer.NoMemory = 123
+status_of _ = 120
+
+-- a trap in words
+abbrev pub trap_words : Trap → List ℕ
+trap_words trap.Overflow = codes "overflow"
+trap_words trap.DivideByZero = codes "divide by zero"
+trap_words trap.ShiftRange = codes "shift range"
+trap_words trap.BadIndex = codes "bad index"
+trap_words trap.CallDepth = codes "call depth"
+trap_words trap.OutputLimit = codes "output limit"
 
 -- the first words of the line of an answer on the error output
 abbrev pub words_of : End → List ℕ
 words_of answer.Done = []
+words_of (answer.Ran status) = []
+words_of (answer.Trapped t line) = codes "cov: trapped "
+words_of (answer.OutOfTurns turns) = codes "cov: out of turns after "
 words_of (answer.Usage usage_fault.NotBuilt) =
     codes "cov: usage: cover SRC IN.. | build SRC | run NAME | report NAME | merge A B OUT | make N"
 words_of (answer.SourceRefused source_fault.NotFirst) = codes "cov: source: not first form"
+words_of (answer.SourceRefused (source_fault.NotAccepted fault)) = codes "cov: source: "
+words_of (answer.BadCode fault) = codes "cov: bad code "
 words_of (answer.Missing name) = codes "cov: missing "
 words_of (answer.TooLong name) = codes "cov: too long "
+words_of answer.ReadFault = codes "cov: read fault"
 words_of answer.WriteFault = codes "cov: write fault"
 words_of answer.FolderFault = codes "cov: folder fault"
 words_of answer.NoMemory = codes "cov: no memory"
 
--- the name of the file that an answer speaks of
+-- what an answer names: a file, a trap or a fault
 abbrev pub name_of : End → List ℕ
-name_of answer.Done = []
-name_of (answer.Usage usage_fault.NotBuilt) = []
-name_of (answer.SourceRefused source_fault.NotFirst) = []
+name_of (answer.Trapped t line) = trap_words t
+name_of (answer.SourceRefused (source_fault.NotAccepted fault)) = source_words.words fault
+name_of (answer.BadCode fault) = code_words.words fault
 name_of (answer.Missing name) = string_bytes name
 name_of (answer.TooLong name) = string_bytes name
-name_of answer.WriteFault = []
-name_of answer.FolderFault = []
-name_of answer.NoMemory = []
+name_of _ = []
 
--- the line of an answer: its words, the name in it and a newline
+-- the words between that and its number
+abbrev pub link_of : End → List ℕ
+link_of (answer.Trapped t line) = codes " at line "
+link_of (answer.SourceRefused (source_fault.NotAccepted fault)) = source_words.link fault
+link_of (answer.BadCode fault) = codes " at byte "
+link_of _ = []
+
+-- the number that an answer tells, if it tells one: a line, a place in a file, or how many there were
+abbrev pub number_of : End → Option ℕ
+number_of (answer.Trapped t line) = Some line
+number_of (answer.OutOfTurns turns) = Some turns
+number_of (answer.SourceRefused (source_fault.NotAccepted fault)) = Some (source_words.number fault)
+number_of (answer.BadCode fault) = Some (code_words.place fault)
+number_of _ = None
+
+-- a number in digits, or nothing
+abbrev pub digits_of : Option ℕ → List ℕ
+digits_of None = []
+digits_of (Some n) = decimal n
+
+-- the line of an answer: its words, what it names, the words between, its number and a newline
 abbrev pub whole_line : End → List ℕ
-whole_line end = words_of end ++ (name_of end ++ 10 ∷ [])
+whole_line end = words_of end ++ (name_of end ++ (link_of end ++ (digits_of (number_of end) ++ 10 ∷ [])))
 
--- the line of an answer on the error output; Done has none
+-- whether an answer has no line: the command did all that it does, or the program ran and ended by itself
+abbrev pub is_silent : End → Bool
+is_silent answer.Done = true
+is_silent (answer.Ran status) = true
+is_silent _ = false
+
+-- the line of an answer on the error output, if it has one
 unfoldable pub line_of : End → List ℕ
-line_of answer.Done = []
-line_of (answer.Usage fault) = whole_line (answer.Usage fault)
-line_of (answer.SourceRefused fault) = whole_line (answer.SourceRefused fault)
-line_of (answer.Missing name) = whole_line (answer.Missing name)
-line_of (answer.TooLong name) = whole_line (answer.TooLong name)
-line_of answer.WriteFault = whole_line answer.WriteFault
-line_of answer.FolderFault = whole_line answer.FolderFault
-line_of answer.NoMemory = whole_line answer.NoMemory
+line_of end = cond (is_silent end) [] (whole_line end)

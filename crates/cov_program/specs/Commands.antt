@@ -1,51 +1,69 @@
 -- The commands, and what each does: a new one brings an equation to each definition here, and no clause of the top call changes.
-use Rattle.std.specs.Prelude.{ℕ, List, Option, Some, None}
-use Rattle.cov_outside.specs.Outside.{Files}
+use Rattle.std.specs.Prelude.{◌≡◌, ◌≢◌, ℕ, List, IfSome, IsSomeAnd}
+use Rattle.cov_outside.specs.Outside.{Rose}
 use Rattle.cov_program.specs.declared.answers.End.{End}
-use Rattle.cov_program.specs.Words.{IsCover}
-use Rattle.cov_program.specs.Cover.{Covers, HasCoverReason, IsCoverReady, IsCoverUnwritten, IsCoverDone}
+use Rattle.cov_program.specs.Outside.{Outside}
+use Rattle.cov_program.specs.Words.{IsCover, IsBuild}
+use Rattle.cov_program.specs.Cover.{Covers, HasCoverReason, IsCoverReady, IsCoverUnwritten, IsCoverDone, IsOfCover}
+use Rattle.cov_program.specs.Build.{built_name, Builds, HasBuildReason, IsBuildReady, IsBuildDone, IsOfBuild}
 
--- A command: `cover SRC IN`, of a source on an input.
+-- A command: `cover SRC IN`, of a source on an input, or `build --plain SRC`.
 pub data Command : Type 0 where
   Cover : List ℕ → List ℕ → Command
+  Build : List ℕ → Command
 
 -- the words ask for the command
 abbrev pub Asks : List (List ℕ) → Command → Type 0
 Asks words (Cover source input) = IsCover words source input
+Asks words (Build source) = IsBuild words source
 
 -- the fact holds of each command that the words ask for
 abbrev pub EachAsked : List (List ℕ) → (Command → Type 0) → Type 0
 EachAsked words fact = (command : Command) → Asks words command → fact command
 
--- what an answer of the command says, for the files and what was written before as it began and what is written after it
-abbrev pub Does : Files → List ℕ → Option (List ℕ) → End → Command → Type 0
-Does files before after end (Cover source input) = Covers files source input before after end
+-- what an answer of the command says, for the outside before and after it, where that is told
+abbrev pub Does : Outside → Outside → End → Command → Type 0
+Does before after end (Cover source input) =
+    IfSome before.files (λ files. IfSome before.output (λ output. Covers files source input output after.output end))
+Does before after end (Build source) = IfSome before.files (λ files. Builds files source after.files end)
 
--- why the command ends so, for the files as it began
-abbrev pub HasReason : Files → End → Command → Type 0
-HasReason files end (Cover source input) = HasCoverReason files source input end
+-- the answer is one that the command may have
+abbrev pub IsAnswerOf : End → Command → Type 0
+IsAnswerOf end (Cover source input) = IsOfCover end
+IsAnswerOf end (Build source) = IsOfBuild end
 
--- the files are as the command needs them
-abbrev pub IsReady : Files → Command → Type 0
-IsReady files (Cover source input) = IsCoverReady files source input
+-- why the command ends so, for the outside before it
+abbrev pub HasReason : Outside → End → Command → Type 0
+HasReason before end (Cover source input) = IfSome before.files (λ files. HasCoverReason files source input end)
+HasReason before end (Build source) = IfSome before.files (λ files. HasBuildReason files source end)
+
+-- the files are told, and as the command needs them
+abbrev pub IsReady : Outside → Command → Type 0
+IsReady before (Cover source input) = IsSomeAnd before.files (λ files. IsCoverReady files source input)
+IsReady before (Build source) = IsSomeAnd before.files (λ files. IsBuildReady files source)
+
+-- no count of faults rose of what the command uses
+abbrev pub IsFaultless : Outside → Outside → Command → Type 0
+IsFaultless before after (Cover source input) =
+    (Rose before.output_faults after.output_faults → ⊥) × (Rose before.folder_faults after.folder_faults → ⊥)
+IsFaultless before after (Build source) = Rose before.folder_faults after.folder_faults → ⊥
 
 -- the command did all that it does, or is out of memory
 abbrev pub IsDone : End → Command → Type 0
 IsDone end (Cover source input) = IsCoverDone end
+IsDone end (Build source) = IsBuildDone end
 
 -- the command writes nothing to the output where this is its answer
 abbrev pub IsUnwritten : End → Command → Type 0
 IsUnwritten end (Cover source input) = IsCoverUnwritten end
+IsUnwritten end (Build source) = Unit {0}
 
 -- the command doesn't read standard input
 abbrev pub LeavesInput : Command → Type 0
 LeavesInput (Cover source input) = Unit {0}
+LeavesInput (Build source) = Unit {0}
 
 -- the command doesn't change the file of this name
 abbrev pub LeavesFile : List ℕ → Command → Type 0
 LeavesFile name (Cover source input) = Unit {0}
-
--- what is told of the file of this name
-abbrev pub file_at : Option Files → List ℕ → Option (Option (List ℕ))
-file_at None name = None
-file_at (Some files) name = Some (files name)
+LeavesFile name (Build source) = name ≢ built_name source

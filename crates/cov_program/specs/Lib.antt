@@ -1,6 +1,10 @@
 pub mod Words
 pub mod Answers
+pub mod Outside
+pub mod Loaded
 pub mod Cover
+pub mod Build
 pub mod Commands
 pub mod Performs
 pub mod Steps
+pub mod Built

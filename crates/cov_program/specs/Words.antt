@@ -11,3 +11,8 @@ pub record IsSourceName (name : List ℕ) : Type 0 where
 pub record IsCover (words : List (List ℕ)) (source input : List ℕ) : Type 0 where
   pub three : words ≡ codes "cover" ∷ source ∷ input ∷ []
   pub name : IsSourceName source
+
+-- The words ask to build this source without counting.
+pub record IsBuild (words : List (List ℕ)) (source : List ℕ) : Type 0 where
+  pub three : words ≡ codes "build" ∷ codes "--plain" ∷ source ∷ []
+  pub name : IsSourceName source

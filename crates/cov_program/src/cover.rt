@@ -11,16 +11,16 @@ ghost use Rattle.std.specs.Prelude.{
 };
 ghost use Rattle.cov_base.specs.Limits.{source_limit};
 ghost use Rattle.cov_outside.specs.Outside.{HasCause};
-ghost use Rattle.cov_program.specs.Answers.{IsUsage};
-ghost use Rattle.cov_program.specs.Cover.{Covers, HasCoverReason, IsCoverUnwritten};
+ghost use Rattle.cov_program.specs.Cover.{Covers, HasCoverReason, IsCoverUnwritten, IsOfCover};
 ghost use Rattle.first_form.specs.CoverText.{stem};
 ghost use Rattle.cov_program.specs.Words.{IsSourceName};
-ghost use Rattle.cov_program.specs.Steps.{LoadsFile, Compiles, Prepares, IsEarly, WritesText};
+ghost use Rattle.cov_program.specs.Steps.{Compiles, Prepares, IsEarly, WritesText};
 
 use crate::answers::{End, SourceFault};
+use crate::files::load;
 use crate::words::CoverWords;
 use cov_base::{FILE_LIMIT, SOURCE_LIMIT};
-use cov_outside::{Folder, LoadFault, Sink, SinkFault, write_all};
+use cov_outside::{Folder, Sink, SinkFault, write_all};
 use first_form::{Names, Unit, compile_source, cover_text};
 use std::alloc::Global;
 
@@ -38,7 +38,7 @@ pub fn cover<K: Sink, F: Folder>(
         (K.written out.new) result)) }
     ensures reason { IfSome (F.files folder.old) (λ files.
         HasCoverReason files names.entry.source.now names.entry.input.now result) }
-    ensures usage { IsUsage result → ⊥ }
+    ensures kind { IsOfCover result }
     ensures files { F.files folder.new ≡ F.files folder.old }
     ensures unwritten { IsCoverUnwritten result → out.new ≡ out.old }
     ensures write_fault { HasCause (K.faults out.old) (K.faults out.new)
@@ -78,24 +78,6 @@ fn made_text<F: Folder>(
     Ok(cover_text(alloc, &unit, called, &source, &input)?)
 }
 
-/// The bytes of a file that is there and no longer than the limit.
-fn load<F: Folder>(alloc: Global, folder: &mut F, name: &str, limit: usize) -> Result<Vec<u8>, End>
-    ensures loads { IfSome (F.files folder.old) (λ files. LoadsFile files name.now limit result) }
-    ensures fits { IfOk result (λ bytes. length bytes.items ≤ limit) }
-    ensures early { IfErr result IsEarly }
-    ensures files { F.files folder.new ≡ F.files folder.old }
-    ensures cause { HasCause (F.faults folder.old) (F.faults folder.new)
-        (IsErrOf result End.FolderFault) }
-{
-    match folder.load(name, limit) {
-        Ok(Some(bytes)) => Ok(bytes),
-        Ok(None) => Err(End::Missing(String::from_str(alloc, name)?)),
-        Err(LoadFault::TooLong) => Err(End::TooLong(String::from_str(alloc, name)?)),
-        Err(LoadFault::Failed) => Err(End::FolderFault),
-        Err(LoadFault::NoMemory) => Err(End::NoMemory),
-    }
-}
-
 /// The unit of a source that is of the first form.
 fn compile(alloc: Global, source: &[u8]) -> Result<Unit, End>
     requires { length source.now ≤ source_limit }
@@ -113,6 +95,7 @@ fn compile(alloc: Global, source: &[u8]) -> Result<Unit, End>
 fn write<K: Sink>(out: &mut K, text: &[u8]) -> End
     ensures writes { WritesText (K.written out.old) (K.written out.new) text.now result }
     ensures written { IsCoverUnwritten result → ⊥ }
+    ensures kind { IsOfCover result }
     ensures write_fault { HasCause (K.faults out.old) (K.faults out.new)
         (result ≡ End.WriteFault) }
     ensures out_wants { HasCause (K.wants out.old) (K.wants out.new) ⊥ }

@@ -2,9 +2,11 @@
 #![tactic(auto)]
 
 mod answers;
+mod build;
 mod command;
 mod complaints;
 mod cover;
+mod files;
 mod words;
 
 pub use answers::{End, SourceFault, UsageFault, status_of};

@@ -6,8 +6,8 @@ ghost use Rattle.std.specs.Prelude.{
   ◌↔◌,
   ◌++◌,
   ℕ,
+  true,
   List,
-  Some,
   map,
   string_bytes,
 };
@@ -18,9 +18,10 @@ ghost use Rattle.cov_outside.specs.Memory.{
   sure_written,
 };
 ghost use Rattle.cov_outside.specs.Outside.{Rose};
-ghost use Rattle.cov_program.specs.Answers.{line_of};
-ghost use Rattle.cov_program.specs.Commands.{Does, EachAsked, IsDone, IsReady};
+ghost use Rattle.cov_program.specs.Answers.{is_silent, line_of};
+ghost use Rattle.cov_program.specs.Commands.{Does, EachAsked, HasReason, IsDone, IsReady};
 ghost use Rattle.cov_program.specs.Commands.{LeavesFile, LeavesInput};
+ghost use Rattle.cov_rows.specs.Sure.{sure_outside};
 
 use cov_outside::{SureFolder, SureSink, SureSource};
 use cov_program::{End, UsageFault, perform};
@@ -35,13 +36,17 @@ pub fn perform_surely(
     err: &mut SureSink,
     folder: &mut SureFolder,
 ) -> End
-    // What the command does.
+    // What the command does, and why it ends so.
     ensures does { EachAsked (map string_bytes words.now)
-        (Does (sure_files folder.old) (sure_written out.old) (Some (sure_written out.new)) result) }
+        (Does (sure_outside input.old out.old folder.old) (sure_outside input.new out.new folder.new)
+        result) }
+    ensures reason { EachAsked (map string_bytes words.now)
+        (HasReason (sure_outside input.old out.old folder.old) result) }
 
-    // With the files as it needs them the command is done or out of memory.
+    // With the outside as it needs it the command is done or out of memory.
     ensures complete { EachAsked (map string_bytes words.now)
-        (λ command. IsReady (sure_files folder.old) command → IsDone result command) }
+        (λ command. IsReady (sure_outside input.old out.old folder.old) command
+        → IsDone result command) }
 
     // Usage is the answer exactly to words that ask for no command.
     ensures usage { (result ≡ End.Usage UsageFault.NotBuilt)
@@ -50,13 +55,14 @@ pub fn perform_surely(
     // The outside is never blamed.
     ensures writes { result ≢ End.WriteFault }
     ensures loads { result ≢ End.FolderFault }
+    ensures reads { result ≢ End.ReadFault }
 
     // What stands after the command.
     ensures files { (name : List ℕ) → EachAsked (map string_bytes words.now) (LeavesFile name)
         → sure_files folder.new name ≡ sure_files folder.old name }
     ensures input { EachAsked (map string_bytes words.now) LeavesInput
         → sure_remaining input.new ≡ sure_remaining input.old }
-    ensures silent { result ≡ End.Done → sure_written err.new ≡ sure_written err.old }
+    ensures silent { is_silent result ≡ true → sure_written err.new ≡ sure_written err.old }
 
     // The whole line of the answer comes where the error output wants no memory.
     ensures told { (Rose (sure_wants err.old) (sure_wants err.new) → ⊥)

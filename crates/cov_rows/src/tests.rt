@@ -1,5 +1,6 @@
 //! What the tests share: the top call on words and files in memory, and what it left.
 
+mod builds;
 mod faults;
 mod forms;
 mod limits;

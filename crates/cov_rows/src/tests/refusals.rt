@@ -20,7 +20,7 @@ fn refusals_name_their_cause(rt: HostRuntime) -> Result<(), Fail> {
     let no_input = ("Missing(\"no.txt\")", "cov: missing no.txt\n");
     let too_long = ("TooLong(\"F.c\")", "cov: too long F.c\n");
     // The words, the bytes of F.c, and the answer with its line.
-    let rows: [(&str, &[u8], (&str, &str)); 17] = [
+    let rows: [(&str, &[u8], (&str, &str)); 26] = [
         ("", whole, NO_COMMAND),
         ("cover", whole, NO_COMMAND),
         ("cover F.c", whole, NO_COMMAND),
@@ -30,6 +30,15 @@ fn refusals_name_their_cause(rt: HostRuntime) -> Result<(), Fail> {
         ("cover F.C aa.txt", whole, NO_COMMAND),
         ("build F.c", whole, NO_COMMAND),
         ("build F.c aa.txt", whole, NO_COMMAND),
+        ("build --plain", whole, NO_COMMAND),
+        ("build --plain F", whole, NO_COMMAND),
+        ("build --plain .c", whole, NO_COMMAND),
+        ("build --plain F.C", whole, NO_COMMAND),
+        ("build --plain F.c aa.txt", whole, NO_COMMAND),
+        ("build F.c --plain", whole, NO_COMMAND),
+        ("build -plain F.c", whole, NO_COMMAND),
+        ("Build --plain F.c", whole, NO_COMMAND),
+        ("report F", whole, NO_COMMAND),
         ("cover X no.txt", cut, NO_COMMAND),
         ("cover X.c aa.txt", whole, no_source),
         ("cover X.c no.txt", cut, no_source),

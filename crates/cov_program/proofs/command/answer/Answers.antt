@@ -1,28 +1,80 @@
--- The words are a `cover` or they aren't.
-use Rattle.std.proofs.Common.{refl, sym, subst}
+-- The words are one of the commands, which does what it does, or none.
+use Rattle.std.proofs.Common.{refl, ap, subst}
 use Rattle.cov_program.specs.Answers.{IsUsage}
-use Rattle.cov_program.specs.Commands.{Cover}
+use Rattle.cov_program.specs.Outside.{file_at}
+use Rattle.cov_program.specs.Cover.{IsOfCover}
+use Rattle.cov_program.specs.Build.{IsOfBuild}
+use Rattle.cov_program.specs.Commands.{Cover, Build}
 use Rattle.cov_program.proofs.Asked.{none_asked, one_asked}
+use Rattle.cov_program.proofs.Complete.{cover_done, build_done}
+use Rattle.cov_program.proofs.WriteLaws.{no_cause}
 use Rattle.cov_program.proofs.command.answer.Goals as goal
 
-pub returns-in-None-clause-does : goal.returns-in-None-clause-does
-returns-in-None-clause-does g c = none_asked _ _ c.in-None.ensures
+pub returns-in-Some-clause-acts : goal.returns-in-Some-clause-acts
+returns-in-Some-clause-acts g c =
+    let is = c.in-Some.ensures.0 in
+    let e = c.cover.ensures in
+    record {
+      does = one_asked _ (Cover _ _) _ is e.covers;
+      kind = one_asked _ (Cover _ _) _ is e.kind;
+      reason = one_asked _ (Cover _ _) _ is e.reason;
+      complete = one_asked _ (Cover _ _) _ is (cover_done _ _ _ _ _ _ e.write_fault.risen e.folder_fault.risen e.reason);
+      usage = (λ u. absurd (subst IsOfCover u e.kind), λ none. absurd (none (Cover _ _) is));
+      files = λ name leaves. ap (λ files. file_at files name) e.files;
+      read_fault = no_cause _ _ (λ u. subst IsOfCover u e.kind);
+      write_fault = e.write_fault;
+      folder_fault = e.folder_fault;
+      output_wants = e.out_wants;
+    }
 
-pub returns-in-None-clause-reason : goal.returns-in-None-clause-reason
-returns-in-None-clause-reason g c = none_asked _ _ c.in-None.ensures
+pub returns-in-Some-clause-leaves : goal.returns-in-Some-clause-leaves
+returns-in-Some-clause-leaves g c =
+    let is = c.in-Some.ensures.0 in
+    record {
+      input_stands = λ leaves. refl;
+      unwritten = λ unwritten. c.cover.ensures.unwritten (unwritten (Cover _ _) is);
+      usage = λ none. absurd (none (Cover _ _) is);
+    }
 
-pub returns-in-None-clause-usage : goal.returns-in-None-clause-usage
-returns-in-None-clause-usage g c = (λ e. none_asked _ _ c.in-None.ensures, λ none. refl)
+pub returns-in-Some-build_words-clause-acts : goal.returns-in-Some-build_words-clause-acts
+returns-in-Some-build_words-clause-acts g c =
+    let is = c.in-Some-build_words.ensures.0 in
+    let e = c.build.ensures in
+    record {
+      does = one_asked _ (Build _) _ is e.builds;
+      kind = one_asked _ (Build _) _ is e.kind;
+      reason = one_asked _ (Build _) _ is e.reason;
+      complete = one_asked _ (Build _) _ is (build_done _ _ _ _ e.folder_fault.risen e.reason);
+      usage = (λ u. absurd (subst IsOfBuild u e.kind), λ none. absurd (none (Build _) is));
+      files = λ name leaves. e.others name (leaves (Build _) is);
+      read_fault = no_cause _ _ (λ u. subst IsOfBuild u e.kind);
+      write_fault = no_cause _ _ (λ u. subst IsOfBuild u e.kind);
+      folder_fault = e.folder_fault;
+      output_wants = no_cause _ _ (λ h. h);
+    }
 
-pub returns-in-Some-clause-does : goal.returns-in-Some-clause-does
-returns-in-Some-clause-does g c = one_asked _ _ _ _ c.in-Some.ensures.0 c.cover.ensures.covers
+pub returns-in-Some-build_words-clause-leaves : goal.returns-in-Some-build_words-clause-leaves
+returns-in-Some-build_words-clause-leaves g c =
+    let is = c.in-Some-build_words.ensures.0 in
+    record {
+      input_stands = λ leaves. refl;
+      unwritten = λ unwritten. refl;
+      usage = λ none. absurd (none (Build _) is);
+    }
 
-pub returns-in-Some-clause-reason : goal.returns-in-Some-clause-reason
-returns-in-Some-clause-reason g c = one_asked _ _ _ _ c.in-Some.ensures.0 c.cover.ensures.reason
-
-pub returns-in-Some-clause-usage : goal.returns-in-Some-clause-usage
-returns-in-Some-clause-usage g c =
-    (λ e. absurd (c.cover.ensures.usage (subst IsUsage (sym e) tt)), λ none. absurd (none (Cover _ _) c.in-Some.ensures.0))
-
-pub returns-in-Some-clause-unwritten : goal.returns-in-Some-clause-unwritten
-returns-in-Some-clause-unwritten g c = λ unwritten. c.cover.ensures.unwritten (unwritten (Cover _ _) c.in-Some.ensures.0)
+pub returns-in-None-clause-acts : goal.returns-in-None-clause-acts
+returns-in-None-clause-acts g c =
+    let cover = c.in_default.ensures in
+    let build = c.in-None.ensures in
+    record {
+      does = none_asked _ _ cover build;
+      kind = none_asked _ _ cover build;
+      reason = none_asked _ _ cover build;
+      complete = none_asked _ _ cover build;
+      usage = (λ u. none_asked _ _ cover build, λ none. refl);
+      files = λ name leaves. refl;
+      read_fault = no_cause _ _ (λ u. subst IsUsage u tt);
+      write_fault = no_cause _ _ (λ u. subst IsUsage u tt);
+      folder_fault = no_cause _ _ (λ u. subst IsUsage u tt);
+      output_wants = no_cause _ _ (λ h. h);
+    }

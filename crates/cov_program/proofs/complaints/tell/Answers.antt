@@ -1,9 +1,13 @@
--- The line of an answer is its words, the name in it and a newline; that of Done is empty.
-use Rattle.cov_program.proofs.WriteLaws.{line_parts, line_of-Done}
+-- The line of an answer is its pieces in turn; a silent one has none.
+use Rattle.std.proofs.Common.{sym, ◌∙◌}
+use Rattle.cov_program.proofs.WriteLaws.{line_loud, line_silent, nothing_written}
 use Rattle.cov_program.proofs.complaints.tell.Goals as goal
 
-pub returns-in_default-clause-line : goal.returns-in_default-clause-line
-returns-in_default-clause-line g c = rw (line_parts c.args.end.now c.in_default.not-Done) (rw (c.words_of.ensures, c.name_of.ensures) at c.write_line.ensures.line)
+pub returns-then-is_silent-clause-line : goal.returns-then-is_silent-clause-line
+returns-then-is_silent-clause-line g c =
+    rw (line_silent c.args.end.now (sym c.is_silent.ensures ∙ c.if-is_silent.true)) (nothing_written _ _)
 
-pub returns-in-Done-clause-line : goal.returns-in-Done-clause-line
-returns-in-Done-clause-line g c = rw c.in-Done.is (line_of-Done _ _)
+pub returns-clause-line : goal.returns-clause-line
+returns-clause-line g c =
+    rw (line_loud c.args.end.now (sym c.is_silent.ensures ∙ c.if-is_silent.false))
+    (rw (c.words_of.ensures, c.name_of.ensures, c.link_of.ensures, c.number_of.ensures) at c.write_line.ensures.line)
