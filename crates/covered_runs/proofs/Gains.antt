@@ -38,11 +38,11 @@ swap_one s g [] = refl
 swap_one s g (h ∷ hs) =
     ap (λ t. fold gained t hs) (gained_swap s g.0 g.1 h.0 h.1) ∙ swap_one (gained s h) g hs
 
-pub swap_all : (s : List ℕ) (gs hs : List (ℕ × ℕ)) → fold gained (fold gained s gs) hs ≡ fold gained (fold gained s hs) gs
+swap_all : (s : List ℕ) (gs hs : List (ℕ × ℕ)) → fold gained (fold gained s gs) hs ≡ fold gained (fold gained s hs) gs
 swap_all s [] hs = refl
 swap_all s (g ∷ gs) hs = swap_all (gained s g) gs hs ∙ ap (λ t. fold gained t gs) (swap_one s g hs)
 
-pub gained_long : (s : List ℕ) (gs : List (ℕ × ℕ)) → length (fold gained s gs) ≡ length s
+gained_long : (s : List ℕ) (gs : List (ℕ × ℕ)) → length (fold gained s gs) ≡ length s
 gained_long s [] = refl
 gained_long s (g ∷ gs) = gained_long (gained s g) gs ∙ one s g.0 (bit_or (get_or s g.0 0) g.1)
   where
@@ -189,3 +189,10 @@ pub calls_swap : (f : FunctionValue) (i : ℕ) (marks : List Marked) (seen : Lis
 calls_swap f i marks seen gs =
     let a = calls_add f i marks in
     a.is (fold gained seen gs) ∙ swap_all seen gs a.by ∙ ap (λ s. fold gained s gs) (sym (a.is seen))
+
+-- words keep their number
+pub calls_long : (f : FunctionValue) (i : ℕ) (marks : List Marked) (seen : List ℕ)
+    → length (after_calls f i seen marks) ≡ length seen
+calls_long f i marks seen =
+    let a = calls_add f i marks in
+    ap (λ (l : List ℕ). length l) (a.is seen) ∙ gained_long seen a.by

@@ -5,4 +5,4 @@
 
 pub mod laws;
 
-pub use laws::call_words;
+pub use laws::{call_words, walks_counted};
