@@ -1,0 +1,3 @@
+pub mod CallWords
+pub mod CoveredWalks
+pub mod Laws
