@@ -1,5 +1,5 @@
 -- The run of a code that renders a text is what the text means.
-use Rattle.std.proofs.Common.{◌≡◌, ℕ, List, ◌∙◌, sym}
+use Rattle.std.proofs.Common.{ℕ, List, ◌∙◌}
 use Rattle.cov_base.specs.declared.refusal.Refusal.TheVariants as refusal
 use Rattle.stack_ops.specs.declared.endings.Outcome.{Outcome}
 use Rattle.stack_ops.specs.Code.{CodeValue}

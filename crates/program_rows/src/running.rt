@@ -24,7 +24,7 @@ pub struct TextRun {
 /// # Errors
 ///
 /// The fault for which the text isn't accepted, or want of memory.
-#[tactic(auto, using(crate::proofs::RunLaws::runs, crate::proofs::RunLaws::memory))]
+#[tactic(auto, using(crate::proofs::RunLaws::memory))]
 pub fn run_text(
     alloc: Global,
     text: &[u8],
