@@ -50,7 +50,7 @@ pub record HasShapes (u : GraphUnit) (shapes : List ShapeValue) : Type 0 where
   pub nets : (i : ℕ) (g : Graph) → slice_get u.graphs i ≡ Some g
       → (s : ShapeValue) × (slice_get shapes i ≡ Some s) × (s.net ≡ net_of g)
 
--- a shape without rows lists no paths, and the rows of another are those of all prime paths of its net
+-- the rows of a shape, where it has any, are those of all prime paths of its net
 abbrev pub ListsPrimes : ShapeValue → Option RowsValue → Type 0
 ListsPrimes s None = Unit {0}
 ListsPrimes s (Some rows) = (paths : List (List ℕ)) × ArePrimes s.net paths × AreRows s.net.arcs paths rows

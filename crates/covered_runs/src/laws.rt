@@ -16,9 +16,10 @@ pub fn call_words()
 {}
 
 /// The walks of a run go along arcs of the nets of their functions. Where the run of a unit is
-/// closed, the run of its covered code has counted just what these walks passed: each counter is the
-/// number of passages of its arc, and the path words of a function are the bits of just those of its
-/// prime paths that some walk of it contains. And what it counts by is within the limits of codes.
+/// closed, the run of its covered code has counted just what these walks passed: each counter is
+/// the number of passages of its arc, and the path words of a function are the bits of just those
+/// of its prime paths that some walk of it contains. And what it counts by is within the limits of
+/// codes.
 ///
 /// It does nothing: a caller gets its clauses.
 pub fn walks_counted()

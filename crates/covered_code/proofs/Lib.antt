@@ -1,0 +1,3 @@
+pub mod CoveredRendering
+pub mod ListedRows
+pub mod MadeShapes
