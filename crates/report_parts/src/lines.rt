@@ -2,7 +2,8 @@
 
 ghost use Rattle.std.specs.Prelude.{◌≡◌, ◌+◌, ◌<◌, ◌≤◌, ◌^◌, ◌++◌, length, codes, IfOk, OnOk};
 ghost use Rattle.std.specs.String.{string_bytes};
-ghost use Rattle.report_parts.specs.Lines.{report_line, count_text, head_text, report_lines, lines_in};
+ghost use Rattle.report_parts.specs.Lines.{report_line, count_text, head_text, report_lines};
+ghost use Rattle.report_parts.specs.Lines.{lines_in};
 ghost use Rattle.report_parts.specs.CountSteps.{count_at};
 
 use crate::pieces::{push_right, split_line};

@@ -1,6 +1,7 @@
 //! The sums at the end of a report.
 
-ghost use Rattle.std.specs.Prelude.{◌≡◌, ◌+◌, ◌<◌, ◌≤◌, ◌^◌, ◌&&◌, ◌++◌, if◌then◌else◌, nat_lt, length, OnOk, codes};
+ghost use Rattle.std.specs.Prelude.{◌≡◌, ◌+◌, ◌<◌, ◌≤◌, ◌^◌, ◌&&◌, ◌++◌, if◌then◌else◌};
+ghost use Rattle.std.specs.Prelude.{nat_lt, length, OnOk, codes};
 ghost use Rattle.std.specs.List.{All, count_by, list_any, sum_by};
 ghost use Rattle.report_parts.specs.ArcTests as tests;
 ghost use Rattle.report_parts.specs.CountSteps.{count_at};
