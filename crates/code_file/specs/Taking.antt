@@ -139,6 +139,7 @@ items_in c main_at places = record { code = c; main_at = main_at; functions = al
 abbrev pub with_magic : List ℕ → ℕ → (ℕ → List ℕ → ℕ → Told) → Told
 with_magic bytes at then = with_fixed magic (fault.Magic at) bytes at then
 
+-- the word of the version
 abbrev pub with_version : List ℕ → ℕ → (ℕ → List ℕ → ℕ → Told) → Told
 with_version bytes at then = with_fixed version (fault.Version at) bytes at then
 
