@@ -1,18 +1,14 @@
 -- The arcs at the front that leave the same block.
-use Rattle.std.proofs.Common.{◌≡◌, ◌≤◌, ◌<◌, refl, sym, ap, subst, ◌∙◌, ℕ, suc, Bool, true, false, not}
+use Rattle.std.proofs.Common.{◌≡◌, ◌≤◌, ◌<◌, refl, sym, ap, subst, ◌∙◌, ℕ, suc, Bool, true, false, not, ◌++◌}
 use Rattle.std.proofs.Common.{cond, ltb, List, [], ◌∷◌, length, take, drop, ◌==◌, eqb-true, eq-eqb, arith}
 use Rattle.std.specs.Prelude.{Some, None}
 use Rattle.std.specs.List.{position, position_or_len}
-use Rattle.std.proofs.lemmas.Bool.{cond-true, cond-false, ltb-false}
+use Rattle.std.proofs.lemmas.Bool.{cond-true, cond-false, ltb-false, ne_eqb}
 use Rattle.std.proofs.lemmas.Option.{same_Some}
 use Rattle.std.proofs.lemmas.List.Sums.{prefix_len-le-length}
 use Rattle.std.proofs.lemmas.List.Recursion.{is_position_or_len}
 use Rattle.gcno_format.specs.declared.marks.Marked.{Marked}
-use Rattle.gcno_format.specs.Marks.{Leaving, joined, leavings, block_of, front_leaving}
-
--- an arc leaves another block
-abbrev pub leaves_other : ℕ → Marked → Bool
-leaves_other b m = not (m.from == b)
+use Rattle.gcno_format.specs.Marks.{Leaving, joined, leavings, block_of, leaves_other, front_leaving}
 
 -- how many arcs at the front leave a block
 abbrev run : ℕ → List Marked → ℕ
@@ -90,3 +86,44 @@ front_whole (m ∷ ms) lt e =
         go : (b : Bool) → ltb n l ≡ b → cond b (Some n) None ≡ None → l ≤ n
         go true t e = absurd cc
         go false t e = ltb-false n l t
+
+-- ---- further arcs
+
+-- all arcs leave a block
+abbrev pub AllLeave : ℕ → List Marked → Type 0
+AllLeave b [] = Unit {0}
+AllLeave b (m ∷ ms) = (m.from ≡ b) × AllLeave b ms
+
+-- all arcs leave blocks below this one
+abbrev pub AllBelow : ℕ → List Marked → Type 0
+AllBelow b [] = Unit {0}
+AllBelow b (m ∷ ms) = (m.from < b) × AllBelow b ms
+
+-- arcs that leave one block are told together
+pub one_leaving : (b : ℕ) (m : Marked) (ms : List Marked) → AllLeave b (m ∷ ms)
+    → leavings (m ∷ ms) ≡ record { block = b; arcs = m ∷ ms } ∷ []
+one_leaving b m [] h = ap (λ k. record { block = k; arcs = m ∷ [] } ∷ []) h.0
+one_leaving b m (n ∷ ns) h =
+    ap (joined m) (one_leaving b n ns h.1)
+    ∙ cond-true (b == m.from) _ _ (eq-eqb b m.from (sym h.0))
+
+joined_before : (m : Marked) (ls : List Leaving) (l : Leaving) → m.from < l.block
+    → joined m (ls ++ l ∷ []) ≡ joined m ls ++ l ∷ []
+joined_before m [] l lt = cond-false (l.block == m.from) _ _ (ne_eqb l.block m.from (λ e. absurd (omega (arith, e, lt))))
+joined_before m (k ∷ ls) l lt = go (k.block == m.from)
+  where
+    go : (x : Bool)
+        → cond x (record { block = k.block; arcs = m ∷ k.arcs } ∷ (ls ++ l ∷ []))
+        (record { block = m.from; arcs = m ∷ [] } ∷ k ∷ (ls ++ l ∷ []))
+        ≡ cond x (record { block = k.block; arcs = m ∷ k.arcs } ∷ ls)
+        (record { block = m.from; arcs = m ∷ [] } ∷ k ∷ ls) ++ l ∷ []
+    go true = refl
+    go false = refl
+
+-- arcs that leave a later block are told behind the others
+pub leavings_append : (b : ℕ) (ms : List Marked) (n : Marked) (ns : List Marked) → AllBelow b ms
+    → AllLeave b (n ∷ ns) → leavings (ms ++ n ∷ ns) ≡ leavings ms ++ record { block = b; arcs = n ∷ ns } ∷ []
+leavings_append b [] n ns below h = one_leaving b n ns h
+leavings_append b (m ∷ ms) n ns below h =
+    ap (joined m) (leavings_append b ms n ns below.1 h)
+    ∙ joined_before m (leavings ms) (record { block = b; arcs = n ∷ ns }) below.0

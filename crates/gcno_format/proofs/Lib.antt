@@ -1,2 +1,20 @@
 pub mod ArcLaws
+pub mod LineLaws
+pub mod ValueLaws
+pub mod NameLaws
+pub mod TextLaws
+pub mod HeadLaws
+pub mod RecordLaws
+pub mod LayoutLaws
+pub mod TakenLaws
+pub mod AgainLaws
+pub mod FileLaws
+pub mod HeldLaws
+pub mod MadeLaws
+pub mod ChainLaws
+pub mod NotesLaws
+pub mod ExactLaws
+pub mod PutLaws
+pub mod LoopLaws
+pub mod FunctionLaws
 mod Rows

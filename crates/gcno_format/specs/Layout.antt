@@ -1,6 +1,7 @@
 -- What the records of notes hold, item by item, before it is known whether they are those of nets.
 use Rattle.std.specs.Prelude.{ℕ, ◌+◌, ◌==◌, nat_lt, Bool, List, [], ◌∷◌, ◌++◌, length}
 use Rattle.gcno_format.specs.declared.marks.Marked.{Marked}
+use Rattle.gcno_format.specs.Marks.{Leaving}
 
 -- a record of lines: its place in the bytes, a block, and lines
 pub record LinesValue : Type 0 where
@@ -40,22 +41,38 @@ abbrev pub begun : List LayoutValue → LayoutValue → ℕ → ℕ → Progress
 begun before now next count =
     record { before = before; now = now; next = next; count = count; arcs_from = 0; lines_from = 0 }
 
+-- further arcs of a function
+abbrev pub more_arcs : LayoutValue → List Marked → LayoutValue
+more_arcs l arcs = record {
+  place = l.place;
+  name = l.name;
+  line = l.line;
+  checksum = l.checksum;
+  blocks = l.blocks;
+  arcs = l.arcs ++ arcs;
+  lines = l.lines;
+}
+
+-- a further record of lines of a function
+abbrev pub more_lines : LayoutValue → LinesValue → LayoutValue
+more_lines l added = record {
+  place = l.place;
+  name = l.name;
+  line = l.line;
+  checksum = l.checksum;
+  blocks = l.blocks;
+  arcs = l.arcs;
+  lines = l.lines ++ added ∷ [];
+}
+
 -- arcs that leave a block are added to the function
-abbrev pub with_arcs : ProgressValue → ℕ → List Marked → ProgressValue
-with_arcs p block arcs = record {
+abbrev pub with_arcs : ProgressValue → Leaving → ProgressValue
+with_arcs p l = record {
   before = p.before;
-  now = record {
-    place = p.now.place;
-    name = p.now.name;
-    line = p.now.line;
-    checksum = p.now.checksum;
-    blocks = p.now.blocks;
-    arcs = p.now.arcs ++ arcs;
-    lines = p.now.lines;
-  };
+  now = more_arcs p.now l.arcs;
   next = p.next;
   count = p.count;
-  arcs_from = block + 1;
+  arcs_from = l.block + 1;
   lines_from = p.lines_from;
 }
 
@@ -63,15 +80,7 @@ with_arcs p block arcs = record {
 abbrev pub with_lines : ProgressValue → LinesValue → ProgressValue
 with_lines p added = record {
   before = p.before;
-  now = record {
-    place = p.now.place;
-    name = p.now.name;
-    line = p.now.line;
-    checksum = p.now.checksum;
-    blocks = p.now.blocks;
-    arcs = p.now.arcs;
-    lines = p.now.lines ++ added ∷ [];
-  };
+  now = more_lines p.now added;
   next = p.next;
   count = p.count;
   arcs_from = p.arcs_from;

@@ -4,3 +4,4 @@ pub mod Spelling
 pub mod Layout
 pub mod Reading
 pub mod Values
+pub mod Exact

@@ -60,6 +60,10 @@ abbrev pub block_of : List Marked → ℕ
 block_of [] = 0
 block_of (m ∷ more) = m.from
 
+-- an arc leaves another block
+abbrev pub leaves_other : ℕ → Marked → Bool
+leaves_other b m = not (m.from == b)
+
 -- the first of arcs, so many, which leave the same block
 abbrev pub front_leaving : ℕ → List Marked → Leaving
 front_leaving n arcs = record { block = block_of arcs; arcs = take n arcs }

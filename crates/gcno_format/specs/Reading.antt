@@ -5,9 +5,21 @@ use Rattle.gcov_records.specs.declared.fault.FileFault.{FileFault}
 use Rattle.gcov_records.specs.declared.fault.FileFault.TheVariants as fault
 use Rattle.gcov_records.specs.Reading.{Got, Reading, ◌>>=◌, give, tested, word, fixed, header, each, whole}
 use Rattle.gcno_format.specs.declared.marks.Marked.{Marked}
+use Rattle.gcno_format.specs.Marks.{Leaving}
 use Rattle.gcno_format.specs.Notes.{is_name, path_limit}
 use Rattle.gcno_format.specs.Spelling.{magic, version, function_tag, block_tag, arc_tag, line_tag}
-use Rattle.gcno_format.specs.Layout.{LayoutValue, FileValue, ProgressValue, begun, with_arcs, with_lines, all_begun, is_due, is_without_lines}
+use Rattle.gcno_format.specs.Layout.{
+  LinesValue,
+  LayoutValue,
+  FileValue,
+  ProgressValue,
+  begun,
+  with_arcs,
+  with_lines,
+  all_begun,
+  is_due,
+  is_without_lines,
+}
 
 -- no item is read
 abbrev pub fail : {A : Type 0} → FileFault → Reading A
@@ -39,8 +51,8 @@ name_at size_place size =
     placed (λ place.
     word >>= λ n.
     tested is_name_string (λ at. fault.Text place)
-    (tested (λ bytes. n + 16 == size) (λ at. fault.Length size_place) (each 0 n (λ i. byte)))) >>= λ bytes.
-    give (text_in bytes)
+    (tested (λ bytes. n + 16 == size) (λ at. fault.Length size_place) (each 0 n (λ i. byte))) >>= λ bytes.
+    give (text_in bytes))
 
 -- the length of a function's record, which is 18 where its name has one letter
 abbrev pub head_size : Reading ℕ
@@ -85,27 +97,35 @@ arcs_size = tested (λ size. nat_le 12 size && (size % 8 == 4)) fault.Length wor
 abbrev pub lines_size : Reading ℕ
 lines_size = tested (λ size. nat_le 8 size && (size % 4 == 0)) fault.Length word
 
--- a block and the arcs that leave it
-abbrev pub arcs_into : ProgressValue → Reading ProgressValue
-arcs_into p =
+-- a block that is at least this, and the arcs that leave it
+abbrev pub leaving_at : ℕ → Reading Leaving
+leaving_at least =
     arcs_size >>= λ size.
-    ordered p.arcs_from >>= λ block.
+    ordered least >>= λ block.
     each 0 (size / 8) (way block) >>= λ arcs.
-    give (with_arcs p block arcs)
+    give (record { block = block; arcs = arcs })
 
--- a block and its lines, in a record that begins at this place
-abbrev pub lines_into : ProgressValue → ℕ → Reading ProgressValue
-lines_into p place =
+-- a block that is at least this, and its lines, in a record that begins at this place
+abbrev pub lines_at : ℕ → ℕ → Reading LinesValue
+lines_at place least =
     lines_size >>= λ size.
-    ordered p.lines_from >>= λ block.
+    ordered least >>= λ block.
     each 0 (size / 4 - 1) (λ i. word) >>= λ lines.
-    give (with_lines p (record { place = place; block = block; lines = lines }))
+    give (record { place = place; block = block; lines = lines })
+
+-- ---- records
+
+-- the function with a further record of arcs
+abbrev pub arcs_into : ProgressValue → Reading ProgressValue
+arcs_into p = leaving_at p.arcs_from >>= λ l. give (with_arcs p l)
+
+-- the function with a further record of lines, which begins at this place
+abbrev pub lines_into : ProgressValue → ℕ → Reading ProgressValue
+lines_into p place = lines_at place p.lines_from >>= λ r. give (with_lines p r)
 
 -- the next function, whose record begins at this place
 abbrev pub function_into : ProgressValue → ℕ → Reading ProgressValue
 function_into p place = head_at p.next place >>= λ now. give (begun (all_begun p) now (p.next + 1) p.count)
-
--- ---- records
 
 -- a record that may not stand here: where no function is due, the file has ended before it
 abbrev pub wrong_tag : ProgressValue → ℕ → FileFault

@@ -105,6 +105,7 @@ pub record IsFunctionNotes (f : FunctionNotesValue) : Type 0 where
   pub writable : IsWritableFunction f
   pub net : IsNet f.net
   pub line : f.line ≤ word_limit
+  pub checksum : f.checksum ≤ word_limit
   pub words : All (All (λ n. n ≤ word_limit)) f.net.lines
 
 -- notes as they stand in a file

@@ -20,7 +20,8 @@ impl Model for Notes {
 
     ghost Value = { NotesValue };
 
-    ghost view = { λ n. record { stamp = n.stamp; limit = n.limit; functions = n.functions.items } };
+    ghost view = { λ n.
+        record { stamp = n.stamp; limit = n.limit; functions = n.functions.items } };
 }
 
 /// A function of the program.
