@@ -1,5 +1,5 @@
 -- Items one after another, as loops take them.
-use Rattle.std.proofs.Common.{◌≡◌, sym, ap, ◌∙◌, ℕ, suc, ◌+◌, ◌-◌, ◌<◌, ◌≤◌, Bool, List, [], ◌∷◌, ◌++◌, length}
+use Rattle.std.proofs.Common.{◌≡◌, sym, ap, ◌∙◌, ℕ, suc, ◌+◌, ◌-◌, ◌<◌, Bool, List, [], ◌∷◌, ◌++◌, length}
 use Rattle.std.proofs.Common.{ℤ, arith}
 use Rattle.stack_ops.specs.declared.operation.Op.{Op}
 use Rattle.stack_ops.specs.Code.{FunctionValue}
@@ -13,10 +13,6 @@ use Rattle.code_file.proofs.PlaceLaws.{placed_more, places_more}
 -- one less is left
 less : (count i : ℕ) → i < count → count - i ≡ suc (count - (i + 1))
 less count i lt = omega (arith, lt)
-
--- none is left
-none : (count i : ℕ) → count ≤ i → count - i ≡ 0
-none count i le = omega (arith, le)
 
 -- ---- instructions
 
@@ -41,13 +37,6 @@ ops_kept count i ops now places here bytes at whole o place rest next lt e f p h
     rw (e, f, p) (sym (ops_so count i ops places bytes at whole lt h then
     ∙ k (ops_behind (count - (i + 1)) ops places at then)))
 
-pub ops_done : (count i : ℕ) (ops : List Op) (places bytes : List ℕ) (at : ℕ)
-    (whole : (List Op → List ℕ → List ℕ → ℕ → Told) → Told) → count ≤ i
-    → ((then : List Op → List ℕ → List ℕ → ℕ → Told) → with_ops (count - i) ops places bytes at then ≡ whole then)
-    → (then : List Op → List ℕ → List ℕ → ℕ → Told) → whole then ≡ then ops places bytes at
-ops_done count i ops places bytes at whole le h then =
-    sym (h then) ∙ ap (λ n. with_ops n ops places bytes at then) (none count i le)
-
 -- ---- longs
 
 abbrev pub longs_behind : ℕ → List ℕ → Then (List ℕ) → Then ℕ
@@ -67,12 +56,6 @@ pub longs_kept : (count i : ℕ) (table now bytes : List ℕ) (at : ℕ) (whole 
 longs_kept count i table now bytes at whole x rest next lt e h k then =
     rw e (sym (longs_so count i table bytes at whole lt h then ∙ k (longs_behind (count - (i + 1)) table then)))
 
-pub longs_done : (count i : ℕ) (table bytes : List ℕ) (at : ℕ) (whole : Then (List ℕ) → Told) → count ≤ i
-    → ((then : Then (List ℕ)) → with_longs (count - i) table bytes at then ≡ whole then) → (then : Then (List ℕ))
-    → whole then ≡ then table bytes at
-longs_done count i table bytes at whole le h then =
-    sym (h then) ∙ ap (λ n. with_longs n table bytes at then) (none count i le)
-
 -- ---- rows
 
 abbrev pub rows_behind : ℕ → ℕ → Then (List ℕ) → Then (List ℕ)
@@ -84,12 +67,6 @@ pub rows_so : (count i words : ℕ) (table bytes : List ℕ) (at : ℕ) (whole :
 rows_so count i words table bytes at whole lt h then =
     sym (h then) ∙ ap (λ n. with_rows n words table bytes at then) (less count i lt)
 
-pub rows_done : (count i words : ℕ) (table bytes : List ℕ) (at : ℕ) (whole : Then (List ℕ) → Told) → count ≤ i
-    → ((then : Then (List ℕ)) → with_rows (count - i) words table bytes at then ≡ whole then) → (then : Then (List ℕ))
-    → whole then ≡ then table bytes at
-rows_done count i words table bytes at whole le h then =
-    sym (h then) ∙ ap (λ n. with_rows n words table bytes at then) (none count i le)
-
 -- ---- globals
 
 abbrev pub globals_on : ℕ → Then (List ℤ) → Then (List ℤ)
@@ -100,12 +77,6 @@ pub globals_so : (count i : ℕ) (globals : List ℤ) (bytes : List ℕ) (at : �
     → whole then ≡ with_global globals bytes at (globals_on (count - (i + 1)) then)
 globals_so count i globals bytes at whole lt h then =
     sym (h then) ∙ ap (λ n. with_globals n globals bytes at then) (less count i lt)
-
-pub globals_done : (count i : ℕ) (globals : List ℤ) (bytes : List ℕ) (at : ℕ) (whole : Then (List ℤ) → Told) → count ≤ i
-    → ((then : Then (List ℤ)) → with_globals (count - i) globals bytes at then ≡ whole then) → (then : Then (List ℤ))
-    → whole then ≡ then globals bytes at
-globals_done count i globals bytes at whole le h then =
-    sym (h then) ∙ ap (λ n. with_globals n globals bytes at then) (none count i le)
 
 -- ---- functions
 
@@ -142,11 +113,3 @@ functions_kept count i covered numbers start fs now ps here f p more size bytes 
 pub have_more : (fs now : List FunctionValue) (ps here : List PlacesValue) (f : FunctionValue) (p : PlacesValue)
     → now ≡ fs ++ f ∷ [] → here ≡ ps ++ p ∷ [] → length p.ops ≡ length f.ops → HavePlaces fs ps → HavePlaces now here
 have_more fs now ps here f p e d same have = rw (e, d) (places_more fs ps f p have same)
-
-pub functions_done : (count i : ℕ) (covered : Bool) (numbers start : ℕ) (before : List Placed) (bytes : List ℕ) (at : ℕ)
-    (whole : Then (List Placed) → Told) → count ≤ i
-    → ((then : Then (List Placed))
-    → with_functions (count - i) covered numbers start before bytes at then ≡ whole then)
-    → (then : Then (List Placed)) → whole then ≡ then before bytes at
-functions_done count i covered numbers start before bytes at whole le h then =
-    sym (h then) ∙ ap (λ n. with_functions n covered numbers start before bytes at then) (none count i le)
