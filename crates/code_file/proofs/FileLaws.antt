@@ -50,7 +50,7 @@ values_none c start (f ∷ fs) h =
     )
     (values_none c (start + length f.function.ops) fs second.1)
 
-same_file : (c d : CodeValue) → File c ≡ File d → c ≡ d
+pub same_file : (c d : CodeValue) → File c ≡ File d → c ≡ d
 same_file c d h = cc
 
 -- what comes of all items is the file of their code only where nothing else is wrong
@@ -72,20 +72,20 @@ judged_file [] at i c h =
     go true (Some f) m p e = absurd (cc)
     go true None m p e = record { none = refl; main = m; values = p; same = same_file i.code c e }
 
-code_none : (i : Items) → items_fault i.code ≡ None → i.code.functions ≡ functions_in i.functions
+pub code_none : (i : Items) → items_fault i.code ≡ None → i.code.functions ≡ functions_in i.functions
     → main_kept (slice_get i.code.functions i.code.main) ≡ true → placed_fault i.code i.functions ≡ None
     → code_fault i.code ≡ None
 code_none i items same main values =
     rw (items, main) (subst (λ (fs : List FunctionValue). functions_values i.code 0 fs ≡ None) (sym same)
     (values_none i.code 0 i.functions values))
 
-no_file : (c : CodeValue) (f : CodeFault) → File c ≡ Fault f → ⊥
+pub no_file : (c : CodeValue) (f : CodeFault) → File c ≡ Fault f → ⊥
 no_file c f e = cc
 
 same_fault : (f g : CodeFault) → Fault f ≡ Fault g → f ≡ g
 same_fault f g e = cc
 
-same_short : (m n : ℕ) → Fault (fault.Short m) ≡ Fault (fault.Short n) → m ≡ n
+pub same_short : (m n : ℕ) → Fault (fault.Short m) ≡ Fault (fault.Short n) → m ≡ n
 same_short m n e = cc
 
 same_extra : (m n : ℕ) → Fault (fault.Extra m) ≡ Fault (fault.Extra n) → m ≡ n
@@ -145,7 +145,7 @@ laid_by bytes used i e goes then =
     ap (λ (l : List ℕ). with_items l then) e
     ∙ (goes [] then ∙ ap (λ n. then i [] n) (let l = ap length (e ∙ append-nil used) in omega (arith, l)))
 
-empty : (l : List ℕ) → length l ≡ 0 → l ≡ []
+pub empty : (l : List ℕ) → length l ≡ 0 → l ≡ []
 empty [] e = refl
 empty (x ∷ l) e = absurd (omega (arith, e))
 

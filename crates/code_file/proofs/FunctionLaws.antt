@@ -29,7 +29,7 @@ use Rattle.code_file.proofs.SequenceLaws.{AreGlobals, globals_outcome, IsTable, 
 -- ---- one function
 
 -- the tests of the numbers of a function, by those before
-abbrev tests : Bool → ℕ → ℕ → Tests
+abbrev pub tests : Bool → ℕ → ℕ → Tests
 tests covered numbers start =
     (λ ws n. nat_le n parameter_limit)
     ∷ (λ ws n. nat_le (get_or ws 0 0) n && nat_le n cell_limit)
@@ -44,7 +44,7 @@ tests covered numbers start =
     ∷ []
 
 -- a function of its numbers, its instructions and its table
-abbrev function_of : List ℕ → List Op → List ℕ → FunctionValue
+abbrev pub function_of : List ℕ → List Op → List ℕ → FunctionValue
 function_of ws ops table = record {
   params = get_or ws 0 0;
   cells = get_or ws 1 0;
@@ -59,7 +59,7 @@ function_of ws ops table = record {
 }
 
 -- the instructions and the table of a function with these numbers
-abbrev with_body : List ℕ → List ℕ → ℕ → Then Placed → Told
+abbrev pub with_body : List ℕ → List ℕ → ℕ → Then Placed → Told
 with_body ws bytes at then =
     with_ops (get_or ws 8 0) [] [] bytes at (λ ops places bytes here.
     with_table (get_or ws 6 0) (get_or ws 7 0) bytes here (λ table bytes at.

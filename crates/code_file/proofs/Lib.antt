@@ -7,3 +7,11 @@ pub mod OpLaws
 pub mod SequenceLaws
 pub mod FunctionLaws
 pub mod FileLaws
+pub mod RowLaws
+pub mod AgainLaws
+pub mod AgainParts
+pub mod AgainFile
+pub mod TakeLaws
+pub mod PlaceLaws
+pub mod Chains
+pub mod LoopLaws

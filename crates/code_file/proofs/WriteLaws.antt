@@ -58,7 +58,7 @@ functions_writable c k numbers start (f ∷ fs) h (suc i) d lt =
     functions_writable c (suc k) (numbers + numbers_in f) (start + length f.ops) fs
     (or-none (function_items c k numbers start f) _ h).1 i d (omega (arith, lt))
 
-functions_few : (c : CodeValue) (k numbers start : ℕ) (fs : List FunctionValue) → start ≤ instruction_limit
+pub functions_few : (c : CodeValue) (k numbers start : ℕ) (fs : List FunctionValue) → start ≤ instruction_limit
     → functions_items c k numbers start fs ≡ None → length fs + start ≤ instruction_limit
 functions_few c k numbers start [] le h = omega (arith, le)
 functions_few c k numbers start (f ∷ fs) le h =

@@ -5,6 +5,7 @@ use Rattle.stack_ops.specs.Code.{CodeValue}
 use Rattle.code_runs.specs.CodeChecks.{code_fault}
 use Rattle.code_file.specs.declared.fault.CodeFault.TheVariants as fault
 use Rattle.code_file.specs.Reading.{Told, File, Fault, told}
+use Rattle.code_file.specs.InWords.{IsCodeInWords}
 use Rattle.code_file.specs.Spelling.{code_bytes}
 use Rattle.code_file.specs.Told.{Items, with_items}
 
@@ -47,3 +48,7 @@ abbrev pub ExtraIsMore : Type 0
 ExtraIsMore =
     (bytes : List ℕ) (n : ℕ) → told bytes ≡ Fault (fault.Extra n)
     → (front more : List ℕ) × (bytes ≡ front ++ more) × (0 < length more) × (n ≡ length front) × IsLaid front
+
+-- The spelling of a code that breaks no rule, and whose numbers fit words, is the file of this code.
+abbrev pub SpelledIsRead : Type 0
+SpelledIsRead = (c : CodeValue) → code_fault c ≡ None → IsCodeInWords c → told (code_bytes c) ≡ File c

@@ -6,3 +6,5 @@ pub mod Decoding
 pub mod Told
 pub mod Laws
 pub mod FaultWords
+pub mod InWords
+pub mod Taking

@@ -61,8 +61,16 @@ impl Checked {
     }
 }
 
+/// A code that is known to break no rule.
+pub fn kept(code: Code) -> Checked
+    requires { code_fault code ≡ None }
+    ensures { result ≡ code }
+{
+    Checked { code }
+}
+
 /// The fault of a broken rule at its place.
-fn fault_of(broken: RuleFault) -> CodeFault
+pub fn fault_of(broken: RuleFault) -> CodeFault
     ensures { result ≡ spec.fault_at broken }
 {
     let place = broken.place;

@@ -8,11 +8,13 @@ ghost use Rattle.code_file.specs.Laws.{
   ShortIsEnd,
   MoreIsExtra,
   ExtraIsMore,
+  SpelledIsRead,
 };
 
 /// What bytes are as a code file: those of a file are the spelling of its code, which breaks no
 /// rule; no file is a proper front of another; what ends too early does so at its end, and what
-/// stands behind a whole file is told at its place.
+/// stands behind a whole file is told at its place; and the spelling of a code that breaks no rule
+/// is its file, where the numbers that no rule bounds fit words.
 pub fn reading()
     ensures spelled { FilesAreSpelled }
     ensures laid { FilesAreLaid }
@@ -21,4 +23,5 @@ pub fn reading()
     ensures ends { ShortIsEnd }
     ensures extra { MoreIsExtra }
     ensures more { ExtraIsMore }
+    ensures whole { SpelledIsRead }
 {}

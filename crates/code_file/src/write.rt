@@ -14,9 +14,9 @@ use int_ops::IntType;
 use stack_ops::{Code, FunctionCode, Op};
 use std::alloc::Global;
 
-const MAGIC: u32 = 0x70636f64;
+pub const MAGIC: u32 = 0x70636f64;
 
-const VERSION: u32 = 0x50323072;
+pub const VERSION: u32 = 0x50323072;
 
 /// The file of the code.
 pub fn write_code(alloc: Global, code: &Code) -> Result<Vec<u8>, NoMemory>

@@ -1,5 +1,6 @@
 use Rattle.code_file.proofs.Outcomes.{bytes_from}
 use Rattle.code_file.proofs.FileLaws.{file_spelled, file_laid, front_short, none_front, short_end, more_extra, extra_more}
+use Rattle.code_file.proofs.AgainFile.{file_again}
 use Rattle.code_file.proofs.laws.reading.Goals as goal
 
 pub returns : goal.returns
@@ -11,4 +12,5 @@ returns c = record {
   ends = short_end;
   extra = more_extra;
   more = extra_more;
+  whole = file_again;
 }
