@@ -1,16 +1,22 @@
 -- With the outside in order and no fault, a command is done or out of memory.
-use Rattle.std.proofs.Common.{◌≡◌, inl, inr, ℕ, ◌<◌, List, length, string_bytes, refl, sym, ap, ◌∙◌, subst, arith}
+use Rattle.std.proofs.Common.{◌≡◌, inl, inr, ℕ, ◌<◌, List, length, string_bytes, true, false, refl, sym, ap, ◌∙◌, subst, arith}
 use Rattle.std.specs.Prelude.{Option, Some, None, IfSome, IsSomeAnd}
-use Rattle.cov_base.specs.Limits.{source_limit}
+use Rattle.cov_base.specs.Limits.{source_limit, file_limit}
 use Rattle.cov_base.specs.declared.refusal.Refusal.TheVariants as refusal
 use Rattle.cov_outside.specs.Outside.{Files}
 use Rattle.first_form.specs.FirstForm.{IsFirstForm}
+use Rattle.stack_ops.specs.Code.{CodeValue}
+use Rattle.code_file.specs.declared.fault.CodeFault.{CodeFault}
+use Rattle.code_file.specs.Reading.{Told, File, Fault}
 use Rattle.source_graphs.specs.declared.graphs.SourceFault.{SourceFault}
 use Rattle.source_graphs.specs.SourceGraphs.{RefusesSource}
 use Rattle.source_graphs.proofs.Acceptance.{refused_for_memory}
 use Rattle.cov_program.specs.declared.answers.End.{End}
 use Rattle.cov_program.specs.declared.answers.End.TheVariants as answer
 use Rattle.cov_program.specs.declared.answers.SourceFault.TheVariants as source_fault
+use Rattle.cov_program.specs.declared.answers.UsageFault.TheVariants as usage_fault
+use Rattle.cov_program.specs.CodeFiles.{IsFileOf, IsNoFile, code_name}
+use Rattle.cov_program.specs.Run.{HasProgram, IsCodeOf, IsBadCode, IsCovered, IsRunTooLong, HasRunReason, IsRunReady, IsRunDone, IsOfRun}
 use Rattle.cov_program.specs.Loaded.{IsLoaded, IsOver}
 use Rattle.cov_program.specs.Cover.{HasSource, IsFormless, IsMissing, IsTooLong, HasCoverReason, IsCoverReady, IsCoverDone}
 use Rattle.cov_program.specs.Build.{HasBuildReason, IsBuildReady, IsBuildDone, IsRefused}
@@ -92,3 +98,75 @@ pub build_done : (files : Option Files) (source : List ℕ) (end : End) (F : Typ
     → (F → ⊥) → IsBuildDone end
 build_done None source end F f h ready none = absurd ready
 build_done (Some files) source end F f h ready none = made files source end h ready (λ e. none (f e))
+
+-- a name has one file
+one_file : (files : Files) (name a b : List ℕ) → files name ≡ Some a → files name ≡ Some b → a ≡ b
+one_file files name a b e f = let g : Some a ≡ Some b = sym e ∙ f in cc
+
+-- what bytes are is one thing
+same_told : (t : Told) (a b : CodeValue) → t ≡ File a → t ≡ File b → a ≡ b
+same_told t a b e f = let g : File a ≡ File b = sym e ∙ f in cc
+
+-- bytes that are a file have no fault
+no_fault_told : (t : Told) (a : CodeValue) (fault : CodeFault) → t ≡ File a → t ≡ Fault fault → ⊥
+no_fault_told t a fault e f = let g : File a ≡ Fault fault = sym e ∙ f in absurd (cc)
+
+-- a file is of one code
+one_code : (bytes : List ℕ) (a b : CodeValue) → IsFileOf bytes a → IsFileOf bytes b → a ≡ b
+unfolding IsFileOf
+one_code bytes a b e f = same_told _ a b e f
+
+-- so for what they are
+no_fault : (bytes : List ℕ) (a : CodeValue) (fault : CodeFault) → IsFileOf bytes a → IsNoFile bytes fault → ⊥
+unfolding IsFileOf IsNoFile
+no_fault bytes a fault e f = no_fault_told _ a fault e f
+
+-- a code that doesn't count isn't one that does
+not_covered : (files : Files) (name : List ℕ) → HasProgram files name → IsCovered files name → ⊥
+not_covered files name program covered =
+    let bytes = one_file files (code_name name) _ _ covered.1.loaded.there program.1.loaded.there in
+    let e : covered.0 ≡ program.0 = one_code _ _ _ (subst (λ b. IsFileOf b covered.0) bytes covered.1.read) program.1.read in
+    let f : false ≡ true = sym program.2 ∙ (sym (ap (λ (code : CodeValue). code.covered) e) ∙ covered.2) in
+    absurd (cc)
+
+-- a code that is read has no fault
+not_bad : (files : Files) (name : List ℕ) (fault : CodeFault) → HasProgram files name → IsBadCode files name fault → ⊥
+not_bad files name fault program bad =
+    let bytes = one_file files (code_name name) _ _ bad.loaded.there program.1.loaded.there in
+    no_fault _ program.0 fault program.1.read (subst (λ b. IsNoFile b fault) bytes bad.refused)
+
+-- neither the code nor standard input is too long
+not_run_too_long : (files : Files) (told : Option (List ℕ)) (name long : List ℕ) → IsRunReady files told name → IsRunTooLong files told name long → ⊥
+not_run_too_long files told name long ready (inl m) = within files (code_name name) _ file_limit ready.program.1.loaded m.1
+not_run_too_long files None name long ready (inr m) = absurd ready.input
+not_run_too_long files (Some bytes) name long ready (inr m) = absurd (omega (arith, ready.input, m.2))
+
+-- where nothing else may be answered, the program's run came to its end, or memory ran out
+ran : (files : Files) (told : Option (List ℕ)) (name : List ℕ) (end : End) → HasRunReason files told name end → IsRunReady files told name
+    → (end ≡ answer.ReadFault → ⊥) → (end ≡ answer.WriteFault → ⊥) → (end ≡ answer.FolderFault → ⊥) → IsRunDone end
+ran files told name (answer.Ran status) h ready r w f = tt
+ran files told name (answer.Trapped trap line) h ready r w f = tt
+ran files told name (answer.OutOfTurns turns) h ready r w f = tt
+ran files told name (answer.Usage fault) h ready r w f = absurd (not_covered files name ready.program h)
+ran files told name (answer.BadCode fault) h ready r w f = absurd (not_bad files name fault ready.program h)
+ran files told name (answer.Missing missing) h ready r w f =
+    absurd (there files (code_name name) _ ready.program.1.loaded.there h.1)
+ran files told name (answer.TooLong long) h ready r w f = absurd (not_run_too_long files told name (string_bytes long) ready h)
+ran files told name answer.ReadFault h ready r w f = absurd (r refl)
+ran files told name answer.WriteFault h ready r w f = absurd (w refl)
+ran files told name answer.FolderFault h ready r w f = absurd (f refl)
+ran files told name answer.NoMemory h ready r w f = tt
+ran files told name _ h ready r w f = absurd h
+
+-- so where the files are told
+pub run_done : (files : Option Files) (told : Option (List ℕ)) (name : List ℕ) (end : End) (R W F : Type 0) → (end ≡ answer.ReadFault → R)
+    → (end ≡ answer.WriteFault → W) → (end ≡ answer.FolderFault → F) → IfSome files (λ files. HasRunReason files told name end)
+    → IsSomeAnd files (λ files. IsRunReady files told name) → (R → ⊥) × (W → ⊥) × (F → ⊥) → IsRunDone end
+run_done None told name end R W F r w f h ready none = absurd ready
+run_done (Some files) told name end R W F r w f h ready none =
+    ran files told name end h ready (λ e. none.0 (r e)) (λ e. none.1 (w e)) (λ e. none.2 (f e))
+
+-- a run that isn't built is one of a code that counts
+pub covered_if_unbuilt : (files : Option Files) (told : Option (List ℕ)) (name : List ℕ) (end : End) → end ≡ answer.Usage usage_fault.NotBuilt
+    → IfSome files (λ files. HasRunReason files told name end) → IfSome files (λ files. IsCovered files name)
+covered_if_unbuilt files told name end e h = subst (λ end. IfSome files (λ files. HasRunReason files told name end)) e h

@@ -4,3 +4,5 @@ pub mod Prepared
 pub mod BuildLaws
 pub mod Complete
 pub mod Asked
+pub mod Running
+pub mod Meant

@@ -1,4 +1,4 @@
--- Three words.
+-- Words in a list of a length.
 use Rattle.std.proofs.Common.{◌≡◌, ℕ, ◌≤◌, ◌<◌, List, [], ◌∷◌, length, get_or, sym, ap, ap₂, subst, ◌∙◌, codes, arith}
 use Rattle.std.specs.Prelude.{Option, Some, None, MatchOption}
 use Rattle.cov_program.specs.declared.words.CoverWords.{CoverWords}
@@ -14,6 +14,13 @@ three (x ∷ []) a b c lo hi p q r = absurd (omega arith)
 three (x ∷ y ∷ []) a b c lo hi p q r = absurd (omega arith)
 three (x ∷ y ∷ z ∷ []) a b c lo hi p q r = cc
 three (x ∷ y ∷ z ∷ w ∷ xs) a b c lo hi p q r = absurd (omega arith)
+
+-- a list of two members is these two
+pub two : {A : Type 0} → (xs : List A) (a b : A) → 2 ≤ length xs → length xs < 3 → a ≡ get_or xs 0 a → b ≡ get_or xs 1 b → xs ≡ a ∷ b ∷ []
+two [] a b lo hi p q = absurd (omega arith)
+two (x ∷ []) a b lo hi p q = absurd (omega arith)
+two (x ∷ y ∷ []) a b lo hi p q = cc
+two (x ∷ y ∷ z ∷ xs) a b lo hi p q = absurd (omega arith)
 
 -- the names that were read of three words are those of a `cover`
 pub cover_names : (words : List (List ℕ)) (source input : List ℕ) (found : Option CoverWords) → words ≡ codes "cover" ∷ source ∷ input ∷ []

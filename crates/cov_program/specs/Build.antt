@@ -1,7 +1,7 @@
 -- What `build --plain SRC` does, why it ends as it does, and when it is done. It loads SRC, compiles it, and where it is accepted replaces
 -- NAME.code, NAME being SRC without its `.c`. So a fault of the folder at the load is its answer whatever SRC is, and at the
 -- replacement only where SRC is accepted.
-use Rattle.std.specs.Prelude.{◌≡◌, ℕ, List, ◌++◌, codes, Option, Some, None, string_bytes}
+use Rattle.std.specs.Prelude.{◌≡◌, ℕ, List, Option, Some, None, string_bytes}
 use Rattle.cov_base.specs.Limits.{source_limit}
 use Rattle.cov_base.specs.declared.refusal.Refusal.TheVariants as refusal
 use Rattle.cov_outside.specs.Outside.{Files, put_file}
@@ -15,11 +15,8 @@ use Rattle.first_form.specs.CoverText.{stem}
 use Rattle.cov_program.specs.declared.answers.End.{End}
 use Rattle.cov_program.specs.declared.answers.End.TheVariants as answer
 use Rattle.cov_program.specs.declared.answers.SourceFault.TheVariants as source_fault
+use Rattle.cov_program.specs.CodeFiles.{code_name}
 use Rattle.cov_program.specs.Loaded.{IsLoaded, IsOver}
-
--- the name of a program's code file
-abbrev pub code_name : List ℕ → List ℕ
-code_name name = name ++ codes ".code"
 
 -- the name of the code file of a source
 abbrev pub built_name : List ℕ → List ℕ

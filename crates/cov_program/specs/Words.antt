@@ -16,3 +16,7 @@ pub record IsCover (words : List (List ℕ)) (source input : List ℕ) : Type 0 
 pub record IsBuild (words : List (List ℕ)) (source : List ℕ) : Type 0 where
   pub three : words ≡ codes "build" ∷ codes "--plain" ∷ source ∷ []
   pub name : IsSourceName source
+
+-- The words ask to run the program of this name.
+abbrev pub IsRunWords : List (List ℕ) → List ℕ → Type 0
+IsRunWords words name = words ≡ codes "run" ∷ name ∷ []

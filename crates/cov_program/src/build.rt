@@ -16,19 +16,19 @@ ghost use Rattle.std.specs.Prelude.{
 ghost use Rattle.cov_base.specs.Limits.{source_limit};
 ghost use Rattle.cov_outside.specs.Outside.{HasCause};
 ghost use Rattle.first_form.specs.CoverText.{stem};
-ghost use Rattle.cov_program.specs.Build.{Builds, HasBuildReason, IsOfBuild, built_name, code_name};
+ghost use Rattle.cov_program.specs.Build.{Builds, HasBuildReason, IsOfBuild, built_name};
 ghost use Rattle.cov_program.specs.Built.{CompilesPlain, MakesCode, PutsFile};
 ghost use Rattle.cov_program.specs.Outside.{file_at};
 ghost use Rattle.cov_program.specs.Steps.{IsEarly};
 
 use crate::answers::{End, SourceFault};
-use crate::files::{load, replace};
+use crate::files::{code_name, load, replace};
 use crate::words::SourceWords;
 use code_file::write_code;
 use cov_base::{Refusal, SOURCE_LIMIT};
 use cov_outside::Folder;
 use source_code::plain_code;
-use std::alloc::{AllocError, Global};
+use std::alloc::Global;
 
 /// A code file that is to be written.
 #[derive(Drop)]
@@ -101,11 +101,4 @@ fn compile_plain(alloc: Global, text: &[u8]) -> Result<Vec<u8>, End>
         Err(Refusal::Refused(fault)) => Err(End::SourceRefused(SourceFault::NotAccepted(fault))),
         Err(Refusal::NoMemory) => Err(End::NoMemory),
     }
-}
-
-/// The name of a program's code file.
-fn code_name(alloc: Global, name: &str) -> Result<String, AllocError>
-    ensures { IfOk result (λ file. string_bytes file ≡ code_name name.now) }
-{
-    format!(in alloc; "{name}.code")
 }

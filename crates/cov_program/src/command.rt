@@ -7,7 +7,8 @@ use crate::answers::{End, UsageFault};
 use crate::build::build;
 use crate::complaints::tell;
 use crate::cover::cover;
-use crate::words::{build_words, cover_words};
+use crate::run::run;
+use crate::words::{build_words, cover_words, run_words};
 use cov_outside::{Folder, Sink, Source};
 use std::alloc::Global;
 
@@ -16,7 +17,8 @@ use std::alloc::Global;
 /// `cover SRC IN` loads the source SRC and the input IN from the folder, runs the source on the
 /// input, and writes the run's text and the report with the count of each source line to `out`.
 /// `build --plain SRC` loads the C source SRC, which is NAME`.c`, compiles it, and replaces
-/// NAME`.code` by its code, which doesn't count. Where a command doesn't do all that it does, a line
+/// NAME`.code` by its code, which doesn't count. `run NAME` loads NAME`.code`, reads `input` to its
+/// end, runs the code on it, and writes the output to `out`. Where a command doesn't do all that it does, a line
 /// on `err` says why.
 pub fn perform<S: Source, K: Sink, E: Sink, F: Folder>(
     alloc: Global,
@@ -98,12 +100,14 @@ fn answer<S: Source, K: Sink, F: Folder>(
     ensures leaves { Leaves (map string_bytes words.now) result input.old input.new out.old out.new
         folder.old folder.new }
 {
-    let _ = input;
     if let Some(names) = cover_words(words) {
         return cover(alloc, names, out, folder);
     }
-    match build_words(words) {
-        Some(names) => build(alloc, names, folder),
+    if let Some(names) = build_words(words) {
+        return build(alloc, names, folder);
+    }
+    match run_words(words) {
+        Some(name) => run(alloc, name, input, out, folder),
         None => End::Usage(UsageFault::NotBuilt),
     }
 }

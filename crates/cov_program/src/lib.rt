@@ -7,8 +7,11 @@ mod command;
 mod complaints;
 mod cover;
 mod files;
+mod laws;
+mod run;
 mod words;
 
 pub use answers::{End, SourceFault, UsageFault, status_of};
 pub use command::perform;
 pub use complaints::tell;
+pub use laws::rendered;

@@ -2,7 +2,7 @@
 
 ghost use Rattle.std.specs.Prelude.{◌≡◌, ℕ, List, MatchOption, codes, map, string_bytes};
 ghost use Rattle.first_form.specs.CoverText.{stem};
-ghost use Rattle.cov_program.specs.Words.{IsBuild, IsCover, IsSourceName};
+ghost use Rattle.cov_program.specs.Words.{IsBuild, IsCover, IsRunWords, IsSourceName};
 
 /// The words `cover SRC IN`.
 #[derive(Clone, Copy, Debug)]
@@ -51,6 +51,22 @@ pub fn build_words(words: &[String]) -> Option<SourceWords<'_>>
     };
     if command.as_str() == "build" {
         plain_words(mode.as_str(), source.as_str())
+    } else {
+        None
+    }
+}
+
+/// Reads `run NAME`, or none where the words aren't that.
+pub fn run_words(words: &[String]) -> Option<&str>
+    ensures { MatchOption result
+        ((name : List ℕ) → IsRunWords (map string_bytes words.now) name → ⊥)
+        (λ name. IsRunWords (map string_bytes words.now) name.now) }
+{
+    let [command, name] = words else {
+        return None;
+    };
+    if command.as_str() == "run" {
+        Some(name.as_str())
     } else {
         None
     }

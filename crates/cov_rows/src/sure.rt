@@ -3,7 +3,6 @@
 ghost use Rattle.std.specs.Prelude.{
   ◌≡◌,
   ◌≢◌,
-  ◌↔◌,
   ◌++◌,
   ℕ,
   true,
@@ -20,7 +19,7 @@ ghost use Rattle.cov_outside.specs.Memory.{
 ghost use Rattle.cov_outside.specs.Outside.{Rose};
 ghost use Rattle.cov_program.specs.Answers.{is_silent, line_of};
 ghost use Rattle.cov_program.specs.Commands.{Does, EachAsked, HasReason, IsDone, IsReady};
-ghost use Rattle.cov_program.specs.Commands.{LeavesFile, LeavesInput};
+ghost use Rattle.cov_program.specs.Commands.{IsUnbuilt, LeavesFile, LeavesInput};
 ghost use Rattle.cov_rows.specs.Sure.{sure_outside};
 
 use cov_outside::{SureFolder, SureSink, SureSource};
@@ -48,9 +47,13 @@ pub fn perform_surely(
         (λ command. IsReady (sure_outside input.old out.old folder.old) command
         → IsDone result command) }
 
-    // Usage is the answer exactly to words that ask for no command.
-    ensures usage { (result ≡ End.Usage UsageFault.NotBuilt)
-        ↔ EachAsked (map string_bytes words.now) (λ command. ⊥) }
+    // Usage is the answer to words that ask for no command, and else only to those that ask for one
+    // that isn't built.
+    ensures usage { EachAsked (map string_bytes words.now) (λ command. ⊥)
+        → result ≡ End.Usage UsageFault.NotBuilt }
+    ensures unbuilt { result ≡ End.Usage UsageFault.NotBuilt
+        → EachAsked (map string_bytes words.now)
+        (IsUnbuilt (sure_outside input.old out.old folder.old)) }
 
     // The outside is never blamed.
     ensures writes { result ≢ End.WriteFault }
@@ -60,7 +63,7 @@ pub fn perform_surely(
     // What stands after the command.
     ensures files { (name : List ℕ) → EachAsked (map string_bytes words.now) (LeavesFile name)
         → sure_files folder.new name ≡ sure_files folder.old name }
-    ensures input { EachAsked (map string_bytes words.now) LeavesInput
+    ensures input { EachAsked (map string_bytes words.now) (LeavesInput result)
         → sure_remaining input.new ≡ sure_remaining input.old }
     ensures silent { is_silent result ≡ true → sure_written err.new ≡ sure_written err.old }
 

@@ -7,6 +7,7 @@ mod limits;
 mod loads;
 mod refusals;
 mod reports;
+mod runs;
 mod statuses;
 
 use cov_outside::{MemFolder, MemSink, MemSource};
@@ -79,7 +80,7 @@ fn text_of(alloc: Global, sink: &MemSink) -> Result<String, Fail> {
     Ok(String::from_utf8(sink.bytes().to_vec(alloc)?)?)
 }
 
-/// The top call on these words over these objects.
+/// The top call on these words over these objects, and an empty input.
 fn ask(
     alloc: Global,
     words: &str,
@@ -87,9 +88,21 @@ fn ask(
     err: &mut MemSink,
     folder: &mut MemFolder,
 ) -> Result<Answered, Fail> {
-    let words = words_in(alloc, words)?;
     let mut input = MemSource::new(Vec::new(alloc), Vec::new(alloc));
-    let end = perform(alloc, &words, &mut input, out, err, folder);
+    ask_with(alloc, words, &mut input, out, err, folder)
+}
+
+/// The top call on these words over these objects.
+fn ask_with(
+    alloc: Global,
+    words: &str,
+    input: &mut MemSource,
+    out: &mut MemSink,
+    err: &mut MemSink,
+    folder: &mut MemFolder,
+) -> Result<Answered, Fail> {
+    let words = words_in(alloc, words)?;
+    let end = perform(alloc, &words, input, out, err, folder);
     Ok(Answered {
         end: format!(in alloc; "{end:?}")?,
         status: status_of(&end),

@@ -172,7 +172,9 @@ fn a_build_needs_its_source(rt: HostRuntime) -> Result<(), Fail> {
 #[test]
 fn a_source_is_replaced_once_it_is_accepted(rt: HostRuntime) -> Result<(), Fail> {
     let alloc = rt.alloc();
-    let bad = b"int main(void) { goto x; }";
+    let good: (&str, &[u8]) = ("F.c", ACCEPTED);
+    let bad: (&str, &[u8]) = ("F.c", b"int main(void) { goto x; }");
+    let old: (&str, &[u8]) = ("F.code", OLD);
     let refused = (
         "SourceRefused(NotAccepted(Lex(LeftOut(Goto, 17))))",
         "cov: source: left out goto at byte 17\n",
@@ -180,12 +182,12 @@ fn a_source_is_replaced_once_it_is_accepted(rt: HostRuntime) -> Result<(), Fail>
     let missing = ("Missing(\"F.c\")", "cov: missing F.c\n");
     // The files, the call of the folder that fails, and the answer with its line.
     let rows: [(&[(&str, &[u8])], u64, (&str, &str)); 6] = [
-        (&[("F.c", ACCEPTED), ("F.code", OLD)], 0, FOLDER_FAULT),
-        (&[("F.c", ACCEPTED), ("F.code", OLD)], 1, FOLDER_FAULT),
-        (&[("F.c", bad), ("F.code", OLD)], 0, FOLDER_FAULT),
-        (&[("F.c", bad), ("F.code", OLD)], 1, refused),
-        (&[("F.code", OLD)], 0, FOLDER_FAULT),
-        (&[("F.code", OLD)], 1, missing),
+        (&[good, old], 0, FOLDER_FAULT),
+        (&[good, old], 1, FOLDER_FAULT),
+        (&[bad, old], 0, FOLDER_FAULT),
+        (&[bad, old], 1, refused),
+        (&[old], 0, FOLDER_FAULT),
+        (&[old], 1, missing),
     ];
     for (files, fails, answer) in rows {
         let mut folder = MemFolder::new(alloc, named(alloc, files)?, [fails].to_vec(alloc)?);

@@ -20,7 +20,7 @@ fn refusals_name_their_cause(rt: HostRuntime) -> Result<(), Fail> {
     let no_input = ("Missing(\"no.txt\")", "cov: missing no.txt\n");
     let too_long = ("TooLong(\"F.c\")", "cov: too long F.c\n");
     // The words, the bytes of F.c, and the answer with its line.
-    let rows: [(&str, &[u8], (&str, &str)); 26] = [
+    let rows: [(&str, &[u8], (&str, &str)); 29] = [
         ("", whole, NO_COMMAND),
         ("cover", whole, NO_COMMAND),
         ("cover F.c", whole, NO_COMMAND),
@@ -39,6 +39,9 @@ fn refusals_name_their_cause(rt: HostRuntime) -> Result<(), Fail> {
         ("build -plain F.c", whole, NO_COMMAND),
         ("Build --plain F.c", whole, NO_COMMAND),
         ("report F", whole, NO_COMMAND),
+        ("run", whole, NO_COMMAND),
+        ("run F G", whole, NO_COMMAND),
+        ("Run F", whole, NO_COMMAND),
         ("cover X no.txt", cut, NO_COMMAND),
         ("cover X.c aa.txt", whole, no_source),
         ("cover X.c no.txt", cut, no_source),

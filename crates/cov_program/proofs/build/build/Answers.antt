@@ -1,6 +1,5 @@
 -- The code file was made and replaced, or the command stopped before.
 use Rattle.cov_program.proofs.Asked.{early_build}
-use Rattle.cov_program.proofs.BuildLaws.{stopped, stopped_reason, built, built_reason, others_stand}
 use Rattle.cov_program.proofs.build.build.Goals as goal
 
 pub returns-in-Err-clause-kind : goal.returns-in-Err-clause-kind

@@ -4,7 +4,7 @@ use Rattle.std.proofs.Common.{arith, ap, inl, inr}
 use Rattle.std.proofs.lemmas.Option.{same_Some}
 use Rattle.cov_outside.specs.Memory.{sure_remaining, sure_written}
 use Rattle.cov_outside.specs.Outside.{Rose}
-use Rattle.cov_program.specs.Commands.{Cover, Build}
+use Rattle.cov_program.specs.Commands.{Cover, Build, Run}
 use Rattle.cov_rows.proofs.sure.perform_surely.Goals as goal
 
 -- a count that stays 0 hasn't risen
@@ -23,9 +23,14 @@ returns-clause-complete c (Cover source input) asked ready =
     c.perform.ensures.performs.acts.complete (Cover source input) asked ready (never_risen, never_risen)
 returns-clause-complete c (Build source) asked ready =
     c.perform.ensures.performs.acts.complete (Build source) asked ready never_risen
+returns-clause-complete c (Run name) asked ready =
+    c.perform.ensures.performs.acts.complete (Run name) asked ready (never_risen, never_risen, never_risen)
 
 pub returns-clause-usage : goal.returns-clause-usage
 returns-clause-usage c = c.perform.ensures.performs.acts.usage
+
+pub returns-clause-unbuilt : goal.returns-clause-unbuilt
+returns-clause-unbuilt c = c.perform.ensures.performs.acts.unbuilt
 
 pub returns-clause-writes : goal.returns-clause-writes
 returns-clause-writes c blamed = never_risen (c.perform.ensures.performs.acts.write_fault.risen blamed)
