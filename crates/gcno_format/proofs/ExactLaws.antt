@@ -17,7 +17,8 @@ use Rattle.gcno_format.specs.Reading.{fail, placed, head_at, leaving_at, lines_a
 use Rattle.gcno_format.specs.Reading.{wrong_tag, by_tag, next_record, is_over, records, first_function, functions_of}
 use Rattle.gcno_format.specs.Reading.{limit_word, notes_file, laid_out}
 use Rattle.gcno_format.specs.Values.{HoldsNet, Fails, FirstFails, AllHold, notes_of, Told}
-use Rattle.gcno_format.specs.Exact.{IsExactly}
+use Rattle.gcno_format.specs.Exact.{IsExactly, IsLaidOut}
+use Rattle.gcno_format.proofs.StayLaws.{laid_or_short}
 use Rattle.gcno_format.proofs.HeadLaws.{head_steady}
 use Rattle.gcno_format.proofs.RecordLaws.{leaving_steady, lines_steady}
 use Rattle.gcno_format.proofs.TakenLaws.{laid_out_taken}
@@ -203,10 +204,17 @@ told_short : (bytes : List ℕ) (n : ℕ) (read : Result FileValue FileFault) �
 told_short bytes n (Ok file) e t = absurd (no_short file.functions n t)
 told_short bytes n (Err found) e t = short_at_end bytes n (e ∙ ap (λ (f : FileFault). Err f) (sym t))
 
+front_of : (bytes : List ℕ) → ((f : FileValue) × (laid_out bytes ≡ Ok f)) ⊎ ((n : ℕ) × (laid_out bytes ≡ Err (fault.Short
+    n))) → IsLaidOut bytes ⊎ (laid_out bytes ≡ Err (fault.Short (length bytes)))
+front_of bytes (inl h) = inl h
+front_of bytes (inr h) =
+    inr (h.1 ∙ ap (λ n. Err (fault.Short n)) (short_at_end bytes h.0 h.1))
+
 pub exactly : (bytes : List ℕ) → IsBytes bytes → IsExactly bytes
 exactly bytes fits = record {
   ok = λ n t. told_ok bytes n (laid_out bytes) fits refl t;
   only = λ n answer h e t. (let k = notes_again n h in
       told_only n k.file answer k.hold k.same (subst (λ r. Told r answer) (ap laid_out e ∙ k.reads) t));
   short = λ n t. told_short bytes n (laid_out bytes) refl t;
+  front = λ more h. front_of bytes (laid_or_short bytes more h.0 fits h.1);
 }

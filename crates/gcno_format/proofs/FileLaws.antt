@@ -345,20 +345,20 @@ limit_step n next rest at le =
     word_spells).again n rest at (omega (arith, le), le-leb n path_limit le))
 
 -- the readings of a file, item by item
-abbrev from_functions : ℕ → ℕ → ℕ → ℕ → Reading FileValue
+abbrev pub from_functions : ℕ → ℕ → ℕ → ℕ → Reading FileValue
 from_functions most stamp limit count =
     functions_of most count >>= λ functions. give (record { stamp = stamp; limit = limit; functions = functions })
 
-abbrev from_count : ℕ → ℕ → ℕ → Reading FileValue
+abbrev pub from_count : ℕ → ℕ → ℕ → Reading FileValue
 from_count most stamp limit = word >>= λ count. from_functions most stamp limit count
 
-abbrev from_limit : ℕ → ℕ → Reading FileValue
+abbrev pub from_limit : ℕ → ℕ → Reading FileValue
 from_limit most stamp = limit_word >>= λ limit. from_count most stamp limit
 
-abbrev from_stamp : ℕ → Reading FileValue
+abbrev pub from_stamp : ℕ → Reading FileValue
 from_stamp most = word >>= λ stamp. from_limit most stamp
 
-abbrev from_version : ℕ → Reading FileValue
+abbrev pub from_version : ℕ → Reading FileValue
 from_version most = fixed version fault.Version >>= λ v. from_stamp most
 
 -- a file is read

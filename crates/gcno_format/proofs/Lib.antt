@@ -13,6 +13,7 @@ pub mod HeldLaws
 pub mod MadeLaws
 pub mod ChainLaws
 pub mod NotesLaws
+pub mod StayLaws
 pub mod ExactLaws
 pub mod PutLaws
 pub mod LoopLaws

@@ -134,7 +134,7 @@ tag_taken p place bytes rest tag at g fit whole_ e h =
         arcs_taken p bytes rest tag at g fit whole_ e (eqb-true tag arc_tag k.0) k.1 h
     arcs false t h = lines (tag == line_tag) refl h
 
-record_taken : (p : ProgressValue) (bytes : List ℕ) (at : ℕ) (g : Got ProgressValue) → FitProgress p → IsBytes bytes
+pub record_taken : (p : ProgressValue) (bytes : List ℕ) (at : ℕ) (g : Got ProgressValue) → FitProgress p → IsBytes bytes
     → next_record p bytes at ≡ Ok g → Took p bytes g
 record_taken p bytes at g fit fits h =
     let q = bind_takes word word_bytes (λ n. n < 4294967296) (λ tag. by_tag p at tag) word_spells bytes at g fits h in
@@ -210,7 +210,7 @@ pub record FitFile (f : FileValue) : Type 0 where
   pub few : length f.functions < 4294967296
   pub functions : All FitLayout f.functions
 
-first_taken : (bytes : List ℕ) (at : ℕ) (g : Got LayoutValue) → IsBytes bytes → first_function bytes at ≡ Ok g
+pub first_taken : (bytes : List ℕ) (at : ℕ) (g : Got LayoutValue) → IsBytes bytes → first_function bytes at ≡ Ok g
     → (bytes ≡ first_bytes g.value ++ g.rest) × FitHead at g.value × IsBytes g.rest
 first_taken bytes at g fits h =
     let q = bind_takes (fixed function_tag fault.Tag) word_bytes (IsThis function_tag) (λ t. head_at 0 at)
@@ -228,7 +228,7 @@ pub record TookFunctions (count : ℕ) (bytes : List ℕ) (g : Got (List LayoutV
   pub many : length g.value ≡ count
   pub fits : All FitLayout g.value
 
-first_fits : (l : LayoutValue) (count at : ℕ) → FitHead at l → 0 < count → count < 4294967296
+pub first_fits : (l : LayoutValue) (count at : ℕ) → FitHead at l → 0 < count → count < 4294967296
     → FitProgress (begun [] l 1 count)
 first_fits l count at f some few = record {
   before = All-nil FitLayout;
