@@ -182,6 +182,7 @@ fn a_code_file_that_is_none_is_refused_at_its_place(rt: HostRuntime) -> Result<(
     let alloc = rt.alloc();
     let code = built(alloc, COUNTER)?;
     let count = code.len();
+    assert!(rt; count > 24, "a short code file");
     for cut in [0, 1, 24, count - 1] {
         let answered = run_over(alloc, &[("F.code", &code[..cut])], b"aa")?;
         let end = format!(in alloc; "BadCode(Short({cut}))")?;
