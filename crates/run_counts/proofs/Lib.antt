@@ -1,0 +1,6 @@
+pub mod FewLaws
+pub mod DataLaws
+pub mod RunShapes
+pub mod MergeLaws
+pub mod RunLaws
+mod Rows

@@ -1,0 +1,4 @@
+pub mod WholeWalks
+pub mod WalkData
+pub mod WalkTallies
+pub mod Laws
