@@ -1,3 +1,5 @@
 pub mod CoveredRendering
 pub mod ListedRows
 pub mod MadeShapes
+pub mod ShortNames
+pub mod WritableNotes

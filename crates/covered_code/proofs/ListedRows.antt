@@ -46,8 +46,8 @@ listed_past net limit lists = record { paths = lists.0; primes = lists.1; by = s
 
 -- ---- what listed rows tell
 
-pub has_rows : (net : NetValue) (limit : ℕ) (paths : List (List ℕ)) (rows : Option RowsValue) (count : ℕ) → limit ≤ 65536
-    → IsListedBy net limit paths rows count → HasRows net count rows
+pub has_rows : (net : NetValue) (limit : ℕ) (paths : List (List ℕ)) (rows : Option RowsValue) (count : ℕ)
+    → limit ≤ 65536 → IsListedBy net limit paths rows count → HasRows net count rows
 has_rows net limit paths _ count few (shapes.listed low are e some) = record {
   paths = paths;
   rows_are = are;

@@ -1,5 +1,5 @@
 -- What the functions of a code that counts are made by.
-use Rattle.std.specs.Prelude.{◌≡◌, ℕ, suc, ◌<◌, ◌≤◌, nat_le, cond, List, [], ◌∷◌, length, slice_get, Option, Some, None}
+use Rattle.std.specs.Prelude.{◌≡◌, ℕ, ◌<◌, ◌≤◌, nat_le, cond, List, [], ◌∷◌, length, Option, Some, None}
 use Rattle.cov_base.specs.Net.{NetValue}
 use Rattle.flow_graph.specs.Graph.{Graph}
 use Rattle.flow_graph.specs.Nets.{net_of}
@@ -8,15 +8,7 @@ use Rattle.path_masks.specs.Masks.{bits_of}
 use Rattle.path_masks.specs.Tables.{RowsValue, AreRows}
 use Rattle.span_tree.specs.Tree.{off}
 use Rattle.stack_code.specs.Modes.{ShapeValue}
-
--- a checksum, or 0 where there is none
-abbrev pub told : Option ℕ → ℕ
-told None = 0
-told (Some n) = n
-
--- the checksum of this index, or 0 where there is none
-abbrev pub checksum_at : List ℕ → ℕ → ℕ
-checksum_at sums i = told (slice_get sums i)
+use Rattle.gcno_format.specs.Spelling.{checksum_of}
 
 -- The rows, if any, and the number of the paths that are listed, where the prime paths of a net are these: they are
 -- listed where they are some and no more than the limit.
@@ -40,16 +32,15 @@ count_within limit n = cond (nat_le n limit) n 0
 abbrev pub bits_within : ℕ → List (List ℕ) → List (List ℕ) → List ℕ
 bits_within limit paths walks = cond (nat_le (length paths) limit) (bits_of paths walks) []
 
--- the shape of a graph: its net, the arcs off the net's tree, the rows of its listed paths, and this checksum
-pub record IsMade (limit checksum : ℕ) (g : Graph) (s : ShapeValue) : Type 0 where
+-- the shape of a graph: its net, the arcs off the net's tree, the rows of its listed paths, and the net's checksum
+pub record IsMade (limit : ℕ) (g : Graph) (s : ShapeValue) : Type 0 where
   pub net : s.net ≡ net_of g
   pub plan : s.plan ≡ off (net_of g)
   pub rows : IsListed (net_of g) limit s.rows s.paths
-  pub checksum_is : s.checksum ≡ checksum
+  pub checksum_is : s.checksum ≡ checksum_of (net_of g)
 
--- the shapes of graphs, of which the first has the number i, with these checksums
-abbrev pub AreMade : ℕ → List ℕ → ℕ → List Graph → List ShapeValue → Type 0
-AreMade limit sums i [] [] = Unit {0}
-AreMade limit sums i (g ∷ gs) (s ∷ shapes) =
-    IsMade limit (checksum_at sums i) g s × AreMade limit sums (suc i) gs shapes
-AreMade limit sums i _ _ = ⊥
+-- the shapes of graphs, in order
+abbrev pub AreMade : ℕ → List Graph → List ShapeValue → Type 0
+AreMade limit [] [] = Unit {0}
+AreMade limit (g ∷ gs) (s ∷ shapes) = IsMade limit g s × AreMade limit gs shapes
+AreMade limit _ _ = ⊥

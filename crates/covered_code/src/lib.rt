@@ -1,9 +1,10 @@
-//! From the bytes of a C source to its code that counts what its runs do.
+//! From the bytes of a C source to its code that counts what its runs do, and to its notes.
 
 #![tactic(auto)]
 
 mod covered;
 mod listed;
+mod notes;
 mod shapes;
 
-pub use covered::{CodeFault, covered_code};
+pub use covered::{CodeFault, Covered, covered_code};

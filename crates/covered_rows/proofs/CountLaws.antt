@@ -28,8 +28,8 @@ same_counts limit net i walks t m cs ws h = record {
 }
 
 -- what each run of the code shows is the run of the text
-pub counts : {text : List ℕ} {limit : ℕ} {sums : List ℕ} {code : CodeValue} {input : List ℕ} {turns : ℕ}
-    {answer : Outcome} {m : MachineValue} → RendersCovered text limit sums code
+pub counts : {text : List ℕ} {limit : ℕ} {code : CodeValue} {input : List ℕ} {turns : ℕ} {answer : Outcome}
+    {m : MachineValue} → RendersCovered text limit code
     → ((ran : Ran) → CodeRun code input turns ran → Shows ran answer m)
     → IsCountedRun text limit turns input answer m
 counts {limit = limit} {input = input} {turns = turns} {m = m} r only =

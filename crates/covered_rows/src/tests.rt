@@ -2,7 +2,7 @@
 
 use crate::{CountedRun, count_text};
 use cov_base::{Refusal, SOURCE_LIMIT};
-use covered_code::CodeFault;
+use covered_code::{CodeFault, covered_code};
 use stack_ops::Outcome;
 use std::process::Abort;
 use std::test::Fail;
@@ -109,6 +109,20 @@ fn loop_on_two_bytes_counts_1_and_2(rt: HostRuntime) {
     };
     let counters: [u64; 2] = [1, 2];
     assert_eq!(rt; run.machine.counters(0), counters.as_slice());
+}
+
+#[test]
+fn notes_have_each_name_with_its_line(rt: HostRuntime) {
+    let names: [(&[u8], u32); 2] = [(b"f", 1), (b"main", 8)];
+    assert!(rt; CALLS.len() <= SOURCE_LIMIT);
+    let Ok(covered) = covered_code(rt.alloc(), CALLS, 10_000) else {
+        panic!(rt; "no code");
+    };
+    assert_eq!(rt; covered.notes.functions.len(), names.len());
+    for (function, (name, line)) in covered.notes.functions.iter().zip(&names) {
+        assert_eq!(rt; function.name.bytes(), *name);
+        assert_eq!(rt; function.line, *line);
+    }
 }
 
 #[test]

@@ -41,8 +41,8 @@ pub fn count_text(
         (λ run. IsCountedRun text.now limit turns input.now run.outcome run.machine) }
     ensures err { IfErr result (λ e. RefusesCovered text.now limit e) }
 {
-    let code = covered_code(alloc, text, limit, &[])?;
-    let Ok(mut machine) = Machine::new(alloc, code, turns) else {
+    let covered = covered_code(alloc, text, limit)?;
+    let Ok(mut machine) = Machine::new(alloc, covered.code, turns) else {
         return Err(Refusal::NoMemory);
     };
     let outcome = machine.run(input);
