@@ -1,0 +1,4 @@
+pub mod Merge
+pub mod Tallied
+pub mod Report
+pub mod Laws

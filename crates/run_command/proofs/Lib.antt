@@ -1,0 +1,5 @@
+pub mod KeepLaws
+pub mod RunLaws
+pub mod EndLaws
+pub mod FirstLaws
+mod Rows
