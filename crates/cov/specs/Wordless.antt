@@ -1,6 +1,6 @@
 -- The answers that come before the top call.
-use Rattle.cov_program.specs.declared.answers.End.{End}
-use Rattle.cov_program.specs.declared.answers.End.TheVariants as answer
+use Rattle.cov_answers.specs.declared.answers.End.{End}
+use Rattle.cov_answers.specs.declared.answers.End.TheVariants as answer
 
 -- the answer comes where there are no words to ask with: they aren't text, or memory ran out
 abbrev pub IsWordless : End → Type 0

@@ -6,7 +6,8 @@ ghost use Rattle.cov.specs.Finished.{Finishes};
 ghost use Rattle.cov.specs.Wordless.{IsWordless};
 
 use cov_outside::{DirFolder, Folder, Sink, Source, StdErr, StdSink, StdSource};
-use cov_program::{End, UsageFault, perform, status_of, tell};
+use cov_program::{End, perform, status_of, tell};
+use cov_words::UsageFault;
 use std::alloc::Global;
 use std::env::Args;
 use std::io::ErrorKind;
@@ -94,6 +95,6 @@ fn wordless(error: &io::Error) -> End
 {
     match error.kind() {
         ErrorKind::OutOfMemory => End::NoMemory,
-        _ => End::Usage(UsageFault::NotBuilt),
+        _ => End::Usage(UsageFault::UnknownCommand),
     }
 }

@@ -1,8 +1,3 @@
-pub mod WriteLaws
-pub mod WordsLaws
-pub mod Prepared
-pub mod BuildLaws
-pub mod Complete
-pub mod Asked
-pub mod Running
-pub mod Meant
+pub mod WithinLaws
+pub mod NameLaws
+pub mod ReadLaws

@@ -1,14 +1,4 @@
-pub mod Words
-pub mod Answers
 pub mod Outside
-pub mod Loaded
-pub mod CodeFiles
-pub mod Cover
-pub mod Build
-pub mod Run
+pub mod Within
 pub mod Commands
 pub mod Performs
-pub mod Steps
-pub mod Built
-pub mod Running
-pub mod Laws

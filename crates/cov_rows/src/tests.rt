@@ -1,60 +1,64 @@
-//! What the tests share: the top call on words and files in memory, and what it left.
+//! What the tests share: the top call on words, standard input and files in memory, and what it
+//! left.
 
+mod answers;
 mod builds;
+mod covers;
+mod data_files;
 mod faults;
-mod forms;
 mod limits;
-mod loads;
+mod merges;
 mod refusals;
 mod reports;
 mod runs;
-mod statuses;
+mod sources;
+mod surely;
 
-use cov_outside::{MemFolder, MemSink, MemSource};
+use cov_outside::{MemFolder, MemSink, MemSource, Source};
 use cov_program::{perform, status_of};
 use std::alloc::{AllocError, Global};
 use std::process::Abort;
 use std::test::Fail;
 
-/// The source of the worked example.
-const WORKED: &str = "int main(void) {
-putchar('<');
-while (getchar() == 'a') {
-putchar('b');
+/// Names of files with their bytes.
+type Files<'a> = &'a [(&'a str, &'a [u8])];
+
+/// An answer as `Debug` prints it, its exit status and its line on the error output.
+type Answer<'a> = (&'a str, u8, &'a str);
+
+/// The words of a call and standard input, and what it must answer and write.
+type Step<'a> = (&'a str, &'a [u8], Answer<'a>, &'a str);
+
+/// The answer where the command did all that it does.
+const DONE: Answer<'static> = ("Done", 0, "");
+
+/// The answers where standard input, the output or the folder failed.
+const READ_FAULT: Answer<'static> = ("ReadFault", 120, "cov: read fault\n");
+
+const WRITE_FAULT: Answer<'static> = ("WriteFault", 120, "cov: write fault\n");
+
+const FOLDER_FAULT: Answer<'static> = ("FolderFault", 120, "cov: folder fault\n");
+
+/// A call: its words and standard input, and the numbers of the calls of standard input, the output
+/// and the error output that fail.
+#[derive(Clone, Copy)]
+struct Case<'a> {
+    words: &'a str,
+    input: &'a [u8],
+    in_input: &'a [u64],
+    in_out: &'a [u64],
+    in_err: &'a [u64],
 }
-return 3;
-}
-";
 
-/// What `cover F.c aa.txt` writes for the worked source and the input `aa`.
-const WORKED_TEXT: &str = "run aa.txt: returned 3, 3 bytes
-<bb
-        -:    0:Source:F.c
-        -:    0:Graph:F.gcno
-        -:    0:Data:F.gcda
-        -:    0:Runs:1
-        1:    1:int main(void) {
-        1:    2:putchar('<');
-        3:    3:while (getchar() == 'a') {
-        2:    4:putchar('b');
-        -:    5:}
-        1:    6:return 3;
-        -:    7:}
-";
-
-/// The words that cover the worked source.
-const COVER: &str = "cover F.c aa.txt";
-
-/// The answer to a source that isn't of the first form, as `Debug` prints it, and its line.
-const NOT_FIRST: (&str, &str) = ("SourceRefused(NotFirst)", "cov: source: not first form\n");
-
-/// What a call left: its answer as `Debug` prints it, its exit status, and what it wrote.
+/// What a call left: its answer as `Debug` prints it, its exit status, what it wrote, and how many
+/// bytes of standard input it left, up to 9.
 #[derive(Drop)]
-struct Answered {
+struct Outcome {
     end: String,
     status: u8,
     out: String,
     err: String,
+    left: usize,
 }
 
 /// The words of a line.
@@ -66,8 +70,8 @@ fn words_in(alloc: Global, line: &str) -> Result<Vec<String>, AllocError> {
     Ok(all)
 }
 
-/// Files of these names and bytes.
-fn named(alloc: Global, files: &[(&str, &[u8])]) -> Result<Vec<(String, Vec<u8>)>, AllocError> {
+/// These names and bytes as own values.
+fn named(alloc: Global, files: Files<'_>) -> Result<Vec<(String, Vec<u8>)>, AllocError> {
     let mut all = Vec::new(alloc);
     for (name, bytes) in files {
         all.push((String::from_str(alloc, name)?, bytes.to_vec(alloc)?))?;
@@ -75,68 +79,111 @@ fn named(alloc: Global, files: &[(&str, &[u8])]) -> Result<Vec<(String, Vec<u8>)
     Ok(all)
 }
 
+/// A folder with these files, whose calls with these numbers fail.
+fn folder_of(alloc: Global, files: Files<'_>, fails: &[u64]) -> Result<MemFolder, AllocError> {
+    Ok(MemFolder::new(alloc, named(alloc, files)?, fails.to_vec(alloc)?))
+}
+
 /// The text that a sink keeps.
 fn text_of(alloc: Global, sink: &MemSink) -> Result<String, Fail> {
     Ok(String::from_utf8(sink.bytes().to_vec(alloc)?)?)
 }
 
-/// The top call on these words over these objects, and an empty input.
-fn ask(
-    alloc: Global,
-    words: &str,
-    out: &mut MemSink,
-    err: &mut MemSink,
-    folder: &mut MemFolder,
-) -> Result<Answered, Fail> {
-    let mut input = MemSource::new(Vec::new(alloc), Vec::new(alloc));
-    ask_with(alloc, words, &mut input, out, err, folder)
+/// How many bytes are left, up to 9.
+fn left_in(source: &mut MemSource) -> usize {
+    let mut piece = [0; 9];
+    source.read(&mut piece).unwrap_or(0)
 }
 
-/// The top call on these words over these objects.
-fn ask_with(
-    alloc: Global,
-    words: &str,
-    input: &mut MemSource,
-    out: &mut MemSink,
-    err: &mut MemSink,
-    folder: &mut MemFolder,
-) -> Result<Answered, Fail> {
-    let words = words_in(alloc, words)?;
-    let end = perform(alloc, &words, input, out, err, folder);
-    Ok(Answered {
+/// What the call leaves of a folder.
+fn call_case(alloc: Global, case: Case<'_>, folder: &mut MemFolder) -> Result<Outcome, Fail> {
+    let words = words_in(alloc, case.words)?;
+    let mut input = MemSource::new(case.input.to_vec(alloc)?, case.in_input.to_vec(alloc)?);
+    let mut out = MemSink::new(alloc, case.in_out.to_vec(alloc)?);
+    let mut err = MemSink::new(alloc, case.in_err.to_vec(alloc)?);
+    let end = perform(alloc, &words, &mut input, &mut out, &mut err, folder);
+    Ok(Outcome {
         end: format!(in alloc; "{end:?}")?,
         status: status_of(&end),
-        out: text_of(alloc, out)?,
-        err: text_of(alloc, err)?,
+        out: text_of(alloc, &out)?,
+        err: text_of(alloc, &err)?,
+        left: left_in(&mut input),
     })
 }
 
-/// The top call on these words and files, without faults.
-fn cover(alloc: Global, words: &str, files: &[(&str, &[u8])]) -> Result<Answered, Fail> {
-    let mut folder = MemFolder::new(alloc, named(alloc, files)?, Vec::new(alloc));
-    let mut out = MemSink::new(alloc, Vec::new(alloc));
-    let mut err = MemSink::new(alloc, Vec::new(alloc));
-    ask(alloc, words, &mut out, &mut err, &mut folder)
+/// What the call of these words leaves where nothing outside fails.
+fn call(alloc: Global, words: &str, input: &[u8], folder: &mut MemFolder) -> Result<Outcome, Fail> {
+    let case = Case {
+        words,
+        input,
+        in_input: &[],
+        in_out: &[],
+        in_err: &[],
+    };
+    call_case(alloc, case, folder)
 }
 
-/// What `cover F.c aa.txt` leaves for this source and this input.
-fn run_on<'a>(alloc: Global, source: &'a str, input: &'a [u8]) -> Result<Answered, Fail> {
-    let files = [("F.c", source.as_bytes()), ("aa.txt", input)];
-    cover(alloc, COVER, &files)
+/// Asserts what a call answered and wrote.
+fn assert_left(rt: &impl Abort, on: &str, left: &Outcome, answer: Answer<'_>, out: &str) {
+    let (end, status, line) = answer;
+    assert_eq!(rt; left.end.as_str(), end, "on {on:?}");
+    assert_eq!(rt; left.status, status, "on {on:?}");
+    assert_eq!(rt; left.err.as_str(), line, "on {on:?}");
+    assert_eq!(rt; left.out.as_str(), out, "on {on:?}");
 }
 
-/// Asserts that a call on this did all that it does.
-fn assert_done(rt: &impl Abort, on: &str, answered: &Answered) {
-    assert_eq!(rt; answered.end.as_str(), "Done", "on {on:?}");
-    assert_eq!(rt; answered.status, 0);
-    assert_eq!(rt; answered.err.as_str(), "", "on {on:?}");
+/// Asserts what calls on one folder answer and write, in order.
+fn assert_steps(
+    rt: &(impl AllocGlobal + Abort),
+    folder: &mut MemFolder,
+    steps: &[Step<'_>],
+) -> Result<(), Fail> {
+    for (words, input, answer, out) in steps {
+        let left = call(rt.alloc(), words, input, folder)?;
+        assert_left(rt, words, &left, *answer, out);
+    }
+    Ok(())
 }
 
-/// Asserts that a call on this had this answer with its line, and wrote no output.
-fn assert_refused(rt: &impl Abort, on: &str, answered: &Answered, answer: (&str, &str)) {
-    let (end, line) = answer;
-    assert_eq!(rt; answered.end.as_str(), end, "on {on:?}");
-    assert_eq!(rt; answered.err.as_str(), line, "on {on:?}");
-    assert_eq!(rt; answered.status, 120);
-    assert_eq!(rt; answered.out.as_str(), "", "on {on:?}");
+/// Asserts that a folder has these files.
+fn assert_files(rt: &impl Abort, on: &str, folder: &MemFolder, files: Files<'_>) {
+    for (name, bytes) in files {
+        assert!(rt; folder.get(name) == Some(*bytes), "of {name} on {on:?}");
+    }
+}
+
+/// Asserts that a folder has no file of these names.
+fn assert_absent(rt: &impl Abort, folder: &MemFolder, names: &[&str]) {
+    for name in names {
+        assert!(rt; folder.get(name).is_none(), "of {name}");
+    }
+}
+
+/// The file of a folder.
+fn file_in(alloc: Global, folder: &MemFolder, name: &str) -> Result<Vec<u8>, Fail> {
+    Ok(folder.get(name).ok_or("no such file")?.to_vec(alloc)?)
+}
+
+/// The code file that these words build of F.c with this text.
+fn built(alloc: Global, words: &str, text: &str) -> Result<Vec<u8>, Fail> {
+    let mut folder = folder_of(alloc, &[("F.c", text.as_bytes())], &[])?;
+    call(alloc, words, b"", &mut folder)?;
+    file_in(alloc, &folder, "F.code")
+}
+
+/// The first bytes, so many.
+fn front(bytes: &[u8], count: usize) -> Result<&[u8], Fail> {
+    Ok(bytes.get(..count).ok_or("too few bytes")?)
+}
+
+/// These bytes with others in the place of those that begin at one.
+fn changed(alloc: Global, bytes: &[u8], at: usize, piece: &[u8]) -> Result<Vec<u8>, Fail> {
+    let mut whole = bytes.to_vec(alloc)?;
+    let mut place = at;
+    for byte in piece {
+        let old = whole.get_mut(place).ok_or("no such byte")?;
+        *old = *byte;
+        place = place.saturating_add(1);
+    }
+    Ok(whole)
 }

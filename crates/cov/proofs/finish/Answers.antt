@@ -1,11 +1,12 @@
 -- The status is that of the answer of the top call, or of the answer that says why there are no words.
 use Rattle.std.proofs.Common.{refl}
-use Rattle.cov_program.proofs.WriteLaws.{told_of}
+use Rattle.cov_answers.proofs.WriteLaws.{told_of}
 use Rattle.cov.proofs.finish.Goals as goal
 
 pub returns-in-Ok : goal.returns-in-Ok
 returns-in-Ok g c =
-    rw (c.in-Ok.is, ← c.deref.ensures.value) (c.perform-end.result, c.status_of.ensures, c.perform-end.ensures.performs, c.perform-end.ensures.stands)
+    rw (c.in-Ok.is, ← c.deref.ensures.value)
+    (c.perform-end.result, c.status_of.ensures, c.perform-end.ensures.performs, c.perform-end.ensures.stands)
 
 pub returns-in-Err : goal.returns-in-Err
 returns-in-Err g c =

@@ -1,209 +1,119 @@
-//! What `build --plain` leaves, and why it refuses.
+//! What `build` leaves, with counting and without.
 
-use super::{ask, assert_done, assert_refused, cover, named};
-use cov_outside::{MemFolder, MemSink};
-use std::alloc::Global;
+use super::sources::LOOP;
+use super::{
+    Answer, DONE, FOLDER_FAULT, assert_absent, assert_files, assert_left, assert_steps, call,
+    file_in, folder_of,
+};
 use std::test::Fail;
 
-/// The words that build F.c.
-const BUILD: &str = "build --plain F.c";
+/// The notes of the loop in P.c.
+const LOOP_NOTES: &[u8] = b"oncgr01P\xa3\xab\x98\xfa\x10'\0\0\x01\0\0\0\
+\0\0\0\x01\x15\0\0\0\0\0\0\0 \x15%.\x05\0\0\0main\0\x01\0\0\0\
+\0\0A\x01\x04\0\0\0\x06\0\0\0\
+\0\0C\x01\x0c\0\0\0\0\0\0\0\x02\0\0\0\x05\0\0\0\
+\0\0C\x01\x0c\0\0\0\x02\0\0\0\x03\0\0\0\x04\0\0\0\
+\0\0C\x01\x14\0\0\0\x03\0\0\0\x04\0\0\0\x05\0\0\0\x05\0\0\0\x01\0\0\0\
+\0\0C\x01\x0c\0\0\0\x04\0\0\0\x03\0\0\0\0\0\0\0\
+\0\0C\x01\x0c\0\0\0\x05\0\0\0\x01\0\0\0\x01\0\0\0\
+\0\0E\x01\x0c\0\0\0\x02\0\0\0\x01\0\0\0\x02\0\0\0\
+\0\0E\x01\x08\0\0\0\x03\0\0\0\x03\0\0\0\
+\0\0E\x01\x08\0\0\0\x04\0\0\0\x04\0\0\0\
+\0\0E\x01\x08\0\0\0\x05\0\0\0\x05\0\0\0";
 
-/// A source that is accepted.
-const ACCEPTED: &[u8] = b"int main(void) { return 0; }\n";
-
-/// What stood under the code file's name before.
+/// What stood under names of files before.
 const OLD: &[u8] = b"old";
 
-/// The answer where a call of the folder fails, and its line.
-const FOLDER_FAULT: (&str, &str) = ("FolderFault", "cov: folder fault\n");
+/// The first bytes of the loop's code file that counts, with its stamp, and of one that doesn't, with
+/// the stamp for no paths.
+const COVERED_CODE: &[u8] = b"docpr02P\xa3\xab\x98\xfa\x01\0\0\0";
 
-/// Whether the bytes begin as a code file does: with its magic word and its version.
-fn begins_as_code(bytes: &[u8]) -> bool {
-    bytes.starts_with(b"docpr02P")
-}
+const PLAIN_CODE: &[u8] = b"docpr02P\xce\xc1\x0a\x23\0\0\0\0";
 
 #[test]
-fn an_accepted_source_gets_its_code_file(rt: HostRuntime) -> Result<(), Fail> {
+fn a_build_replaces_notes_and_code(rt: HostRuntime) -> Result<(), Fail> {
     let alloc = rt.alloc();
-    let files: [(&str, &[u8]); 2] = [("F.c", ACCEPTED), ("G.code", OLD)];
-    let mut folder = MemFolder::new(alloc, named(alloc, &files)?, Vec::new(alloc));
-    let mut out = MemSink::new(alloc, Vec::new(alloc));
-    let mut err = MemSink::new(alloc, Vec::new(alloc));
-    let first = ask(alloc, BUILD, &mut out, &mut err, &mut folder)?;
-    assert_done(&rt, "a source", &first);
-    assert_eq!(rt; first.out.as_str(), "", "a build writes nothing");
-    let made = folder.get("F.code").ok_or("no code file")?.to_vec(alloc)?;
-    assert!(rt; begins_as_code(&made));
-    for (name, bytes) in files {
-        assert!(rt; folder.get(name) == Some(bytes), "of {name}");
-    }
-    assert!(rt; folder.get("F.gcno").is_none());
-    assert!(rt; folder.get("F.c.code").is_none());
-    let second = ask(alloc, BUILD, &mut out, &mut err, &mut folder)?;
-    assert_done(&rt, "the source again", &second);
-    assert!(rt;
-        folder.get("F.code") == Some(&made),
-        "a build gives the same code"
-    );
-    Ok(())
-}
-
-#[test]
-fn a_code_file_is_named_as_its_source(rt: HostRuntime) -> Result<(), Fail> {
-    let alloc = rt.alloc();
-    // The source's name and that of its code file.
-    for (source, code) in [
-        ("a.c", "a.code"),
-        ("a.b.c", "a.b.code"),
-        (".c.c", ".c.code"),
-        ("in/deep.c", "in/deep.code"),
-    ] {
-        let files = named(alloc, &[(source, ACCEPTED)])?;
-        let mut folder = MemFolder::new(alloc, files, Vec::new(alloc));
-        let mut out = MemSink::new(alloc, Vec::new(alloc));
-        let mut err = MemSink::new(alloc, Vec::new(alloc));
-        let words = format!(in alloc; "build --plain {source}")?;
-        let answered = ask(alloc, words.as_str(), &mut out, &mut err, &mut folder)?;
-        assert_done(&rt, source, &answered);
-        assert!(rt; folder.get(code).is_some_and(begins_as_code), "of {code}");
-    }
-    Ok(())
-}
-
-/// What a build of this source leaves under the name of the code file, where OLD stood there.
-fn left_by(alloc: Global, source: &[u8], answer: (&str, &str)) -> Result<Vec<u8>, Fail> {
-    let files: [(&str, &[u8]); 2] = [("F.c", source), ("F.code", OLD)];
-    let mut folder = MemFolder::new(alloc, named(alloc, &files)?, Vec::new(alloc));
-    let mut out = MemSink::new(alloc, Vec::new(alloc));
-    let mut err = MemSink::new(alloc, Vec::new(alloc));
-    let answered = ask(alloc, BUILD, &mut out, &mut err, &mut folder)?;
-    if answered.end.as_str() != answer.0 || answered.err.as_str() != answer.1 {
-        return Err(Fail::from("another answer"));
-    }
-    Ok(folder.get("F.code").ok_or("no file")?.to_vec(alloc)?)
-}
-
-#[test]
-fn refusals_name_their_fault_and_leave_the_code_file(rt: HostRuntime) -> Result<(), Fail> {
-    let alloc = rt.alloc();
-    // The source, the answer and its line.
-    let rows: [(&[u8], &str, &str); 9] = [
-        (
-            b"int main(void) { switch (1) { case 1: case 1: ; } }",
-            "SourceRefused(NotAccepted(Types(TwiceCase(38))))",
-            "cov: source: twice case at byte 38\n",
-        ),
-        (
-            b"int main(void) { goto x; }",
-            "SourceRefused(NotAccepted(Lex(LeftOut(Goto, 17))))",
-            "cov: source: left out goto at byte 17\n",
-        ),
-        (
-            b"",
-            "SourceRefused(NotAccepted(Types(NoMain(0))))",
-            "cov: source: no main at byte 0\n",
-        ),
-        (
-            b"int main(void) { return 09; }",
-            "SourceRefused(NotAccepted(Lex(BadNumber(24))))",
-            "cov: source: bad number at byte 24\n",
-        ),
-        (
-            b"int main(void) { return x; }",
-            "SourceRefused(NotAccepted(Types(Unknown(24))))",
-            "cov: source: unknown at byte 24\n",
-        ),
-        (
-            b"int main(void) { return 0 }",
-            "SourceRefused(NotAccepted(Parse(Syntax(26))))",
-            "cov: source: syntax at byte 26\n",
-        ),
-        (
-            b"int main(void) { return '",
-            "SourceRefused(NotAccepted(Lex(BadByte(25))))",
-            "cov: source: bad byte at byte 25\n",
-        ),
-        (
-            b"int main(void) { int a[4097]; return 0; }",
-            "SourceRefused(NotAccepted(Lower(FrameTooLarge(0, 4097))))",
-            "cov: source: frame too large 4097\n",
-        ),
-        (
-            b"int a[1048576], b; int main(void) { return 0; }",
-            "SourceRefused(NotAccepted(Lower(GlobalsTooLarge(1048577))))",
-            "cov: source: globals too large 1048577\n",
-        ),
+    let files: [(&str, &[u8]); 4] = [
+        ("P.c", LOOP.as_bytes()),
+        ("P.gcda", OLD),
+        ("P.code", OLD),
+        ("Q.code", OLD),
     ];
-    for (source, end, line) in rows {
-        let answered = cover(alloc, BUILD, &[("F.c", source)])?;
-        assert_refused(&rt, line, &answered, (end, line));
-        assert!(rt;
-            left_by(alloc, source, (end, line))?.as_slice() == OLD,
-            "on {line}"
-        );
+    let mut folder = folder_of(alloc, &files, &[])?;
+    assert_steps(&rt, &mut folder, &[("build P.c", b"", DONE, "")])?;
+    let stay: [(&str, &[u8]); 4] = [
+        ("P.c", LOOP.as_bytes()),
+        ("P.gcda", OLD),
+        ("P.gcno", LOOP_NOTES),
+        ("Q.code", OLD),
+    ];
+    assert_files(&rt, "a build", &folder, &stay);
+    assert_absent(&rt, &folder, &["P.c.code", "P.c.gcno", "Q.gcno"]);
+    let code = file_in(alloc, &folder, "P.code")?;
+    assert!(rt; code.starts_with(COVERED_CODE), "{code:?}");
+    assert_steps(&rt, &mut folder, &[("build P.c", b"", DONE, "")])?;
+    assert_files(&rt, "a second build", &folder, &[("P.code", &code)]);
+    Ok(())
+}
+
+#[test]
+fn a_plain_build_replaces_the_code_alone(rt: HostRuntime) -> Result<(), Fail> {
+    let alloc = rt.alloc();
+    let files: [(&str, &[u8]); 2] = [("P.c", LOOP.as_bytes()), ("P.code", OLD)];
+    let mut folder = folder_of(alloc, &files, &[])?;
+    let steps = [("build --plain P.c", b"".as_slice(), DONE, "")];
+    assert_steps(&rt, &mut folder, &steps)?;
+    assert_files(&rt, "a build", &folder, &[("P.c", LOOP.as_bytes())]);
+    assert_absent(&rt, &folder, &["P.gcno", "P.gcda", "P.c.code"]);
+    let code = file_in(alloc, &folder, "P.code")?;
+    assert!(rt; code.starts_with(PLAIN_CODE), "{code:?}");
+    Ok(())
+}
+
+#[test]
+fn files_are_named_as_their_source(rt: HostRuntime) -> Result<(), Fail> {
+    let alloc = rt.alloc();
+    // The source's name, and those of the code and the notes.
+    let rows = [
+        ("a.c", "a.code", "a.gcno"),
+        ("a.b.c", "a.b.code", "a.b.gcno"),
+        (".c.c", ".c.code", ".c.gcno"),
+        ("in/deep.c", "in/deep.code", "in/deep.gcno"),
+    ];
+    for (source, code, notes) in rows {
+        let mut folder = folder_of(alloc, &[(source, LOOP.as_bytes())], &[])?;
+        let words = format!(in alloc; "build {source}")?;
+        let left = call(alloc, words.as_str(), b"", &mut folder)?;
+        assert_left(&rt, source, &left, DONE, "");
+        assert!(rt; folder.get(code).is_some(), "of {code}");
+        assert_files(&rt, source, &folder, &[(notes, LOOP_NOTES)]);
     }
     Ok(())
 }
 
 #[test]
-fn a_build_needs_its_source(rt: HostRuntime) -> Result<(), Fail> {
+fn a_failed_call_of_the_folder_leaves_what_was_not_replaced(rt: HostRuntime) -> Result<(), Fail> {
     let alloc = rt.alloc();
-    let over = vec![in alloc; b'\n'; 1_048_577]?;
-    let most = vec![in alloc; b'\n'; 1_048_576]?;
-    let rows: [(&str, &[u8], (&str, &str)); 3] = [
-        ("Q.c", ACCEPTED, ("Missing(\"F.c\")", "cov: missing F.c\n")),
-        ("F.c", &over, ("TooLong(\"F.c\")", "cov: too long F.c\n")),
-        (
-            "F.c",
-            &most,
-            (
-                "SourceRefused(NotAccepted(Types(NoMain(0))))",
-                "cov: source: no main at byte 0\n",
-            ),
-        ),
+    let text = LOOP.as_bytes();
+    // The words, the call of the folder that fails, the answer, and whether the notes are new.
+    let rows: [(&str, u64, Answer<'_>, bool); 7] = [
+        ("build P.c", 0, FOLDER_FAULT, false),
+        ("build P.c", 1, FOLDER_FAULT, false),
+        ("build P.c", 2, FOLDER_FAULT, true),
+        ("build P.c", 3, DONE, true),
+        ("build --plain P.c", 0, FOLDER_FAULT, false),
+        ("build --plain P.c", 1, FOLDER_FAULT, false),
+        ("build --plain P.c", 2, DONE, false),
     ];
-    for (name, source, answer) in rows {
-        let answered = cover(alloc, BUILD, &[(name, source)])?;
-        assert_refused(&rt, answer.1, &answered, answer);
+    for (words, fails, answer, noted) in rows {
+        let files: [(&str, &[u8]); 3] = [("P.c", text), ("P.gcno", OLD), ("P.code", OLD)];
+        let mut folder = folder_of(alloc, &files, &[fails])?;
+        let left = call(alloc, words, b"", &mut folder)?;
+        assert_left(&rt, words, &left, answer, "");
+        let notes = if noted { LOOP_NOTES } else { OLD };
+        assert_files(&rt, words, &folder, &[("P.gcno", notes)]);
+        let stays = folder.get("P.code") == Some(OLD);
+        assert_eq!(rt; stays, answer != DONE, "at call {fails} of {words}");
     }
-    Ok(())
-}
-
-#[test]
-fn a_source_is_replaced_once_it_is_accepted(rt: HostRuntime) -> Result<(), Fail> {
-    let alloc = rt.alloc();
-    let good: (&str, &[u8]) = ("F.c", ACCEPTED);
-    let bad: (&str, &[u8]) = ("F.c", b"int main(void) { goto x; }");
-    let old: (&str, &[u8]) = ("F.code", OLD);
-    let refused = (
-        "SourceRefused(NotAccepted(Lex(LeftOut(Goto, 17))))",
-        "cov: source: left out goto at byte 17\n",
-    );
-    let missing = ("Missing(\"F.c\")", "cov: missing F.c\n");
-    // The files, the call of the folder that fails, and the answer with its line.
-    let rows: [(&[(&str, &[u8])], u64, (&str, &str)); 6] = [
-        (&[good, old], 0, FOLDER_FAULT),
-        (&[good, old], 1, FOLDER_FAULT),
-        (&[bad, old], 0, FOLDER_FAULT),
-        (&[bad, old], 1, refused),
-        (&[old], 0, FOLDER_FAULT),
-        (&[old], 1, missing),
-    ];
-    for (files, fails, answer) in rows {
-        let mut folder = MemFolder::new(alloc, named(alloc, files)?, [fails].to_vec(alloc)?);
-        let mut out = MemSink::new(alloc, Vec::new(alloc));
-        let mut err = MemSink::new(alloc, Vec::new(alloc));
-        let answered = ask(alloc, BUILD, &mut out, &mut err, &mut folder)?;
-        assert_refused(&rt, answer.1, &answered, answer);
-        assert!(rt; folder.get("F.code") == Some(OLD), "at call {fails}");
-    }
-    let files: [(&str, &[u8]); 1] = [("F.c", ACCEPTED)];
-    let mut folder = MemFolder::new(alloc, named(alloc, &files)?, [2].to_vec(alloc)?);
-    let mut out = MemSink::new(alloc, Vec::new(alloc));
-    let mut err = MemSink::new(alloc, Vec::new(alloc));
-    let first = ask(alloc, BUILD, &mut out, &mut err, &mut folder)?;
-    assert_done(&rt, "two calls", &first);
-    let third = ask(alloc, BUILD, &mut out, &mut err, &mut folder)?;
-    assert_refused(&rt, "the third call", &third, FOLDER_FAULT);
     Ok(())
 }

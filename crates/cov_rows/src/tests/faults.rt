@@ -1,33 +1,142 @@
-//! Faults of the folder, the output and the error output.
+//! Faults of the folder, of standard input, of the output and of the error output.
 
-use super::{COVER, WORKED, WORKED_TEXT, ask, assert_done, assert_refused, named};
-use cov_outside::{MemFolder, MemSink};
+use super::{
+    Answer, Case, DONE, FOLDER_FAULT, READ_FAULT, WRITE_FAULT, assert_files, assert_left, call,
+    call_case, file_in, folder_of,
+};
+use cov_outside::MemFolder;
+use std::alloc::Global;
 use std::test::Fail;
 
-#[test]
-fn faults_of_the_outside_are_told(rt: HostRuntime) -> Result<(), Fail> {
-    let alloc = rt.alloc();
-    let files: [(&str, &[u8]); 2] = [("F.c", WORKED.as_bytes()), ("aa.txt", b"aa")];
-    let of_folder = ("FolderFault", "cov: folder fault\n");
-    let of_output = ("WriteFault", "cov: write fault\n");
-    // The calls of the folder, the output and the error output that fail, and the answer with its line.
-    let rows: [(&[u64], &[u64], &[u64], (&str, &str)); 5] = [
-        (&[0], &[], &[], of_folder),
-        (&[1], &[], &[], of_folder),
-        (&[], &[0], &[], of_output),
-        (&[1], &[], &[0], ("FolderFault", "")),
-        (&[], &[0], &[0], ("WriteFault", "")),
+/// Puts a `b` for each `a` that its input begins with.
+const COPIES: &str = "int main(void) {
+putchar('<');
+while (getchar() == 'a')
+putchar('b');
+return 3;
+}
+";
+
+/// The numbers of the calls of the folder, standard input, the output and the error output that
+/// fail.
+type Fails<'a> = [&'a [u64]; 4];
+
+/// A folder with the program, its data and an input, whose calls with these numbers fail.
+fn whole_folder(alloc: Global, fails: &[u64]) -> Result<MemFolder, Fail> {
+    let mut made = folder_of(alloc, &[("P.c", COPIES.as_bytes())], &[])?;
+    call(alloc, "build P.c", b"", &mut made)?;
+    call(alloc, "run P", b"", &mut made)?;
+    let code = file_in(alloc, &made, "P.code")?;
+    let notes = file_in(alloc, &made, "P.gcno")?;
+    let data = file_in(alloc, &made, "P.gcda")?;
+    let files: [(&str, &[u8]); 5] = [
+        ("P.c", COPIES.as_bytes()),
+        ("P.code", &code),
+        ("P.gcno", &notes),
+        ("P.gcda", &data),
+        ("aa.txt", b"aa"),
     ];
-    for (in_folder, in_out, in_err, answer) in rows {
-        let mut folder = MemFolder::new(alloc, named(alloc, &files)?, in_folder.to_vec(alloc)?);
-        let mut out = MemSink::new(alloc, in_out.to_vec(alloc)?);
-        let mut err = MemSink::new(alloc, in_err.to_vec(alloc)?);
-        let first = ask(alloc, COVER, &mut out, &mut err, &mut folder)?;
-        assert_refused(&rt, "faults", &first, answer);
-        let mut err = MemSink::new(alloc, Vec::new(alloc));
-        let second = ask(alloc, COVER, &mut out, &mut err, &mut folder)?;
-        assert_done(&rt, "no faults", &second);
-        assert_eq!(rt; second.out.as_str(), WORKED_TEXT);
+    Ok(folder_of(alloc, &files, fails)?)
+}
+
+const OF_FOLDER: Answer<'static> = ("FolderFault", 120, "");
+
+const OF_INPUT: Answer<'static> = ("ReadFault", 120, "");
+
+const OF_OUTPUT: Answer<'static> = ("WriteFault", 120, "");
+
+/// The words, what fails, the answer, and what was written.
+const ROWS: [(&str, Fails<'static>, Answer<'static>, &str); 20] = [
+    ("cover P.c aa.txt", [&[0], &[], &[], &[]], FOLDER_FAULT, ""),
+    ("cover P.c aa.txt", [&[1], &[], &[], &[]], FOLDER_FAULT, ""),
+    (
+        "cover P.c aa.txt no",
+        [&[2], &[], &[], &[]],
+        FOLDER_FAULT,
+        "",
+    ),
+    ("cover P.c aa.txt", [&[], &[], &[0], &[]], WRITE_FAULT, ""),
+    ("cover P.c aa.txt", [&[1], &[], &[], &[0]], OF_FOLDER, ""),
+    ("cover P.c aa.txt", [&[], &[], &[0], &[0]], OF_OUTPUT, ""),
+    ("run P", [&[0], &[], &[], &[]], FOLDER_FAULT, ""),
+    ("run P", [&[], &[0], &[], &[]], READ_FAULT, ""),
+    ("run P", [&[], &[1], &[], &[]], READ_FAULT, ""),
+    ("run P", [&[], &[], &[0], &[]], WRITE_FAULT, ""),
+    ("run P", [&[1], &[], &[], &[]], FOLDER_FAULT, "<bb"),
+    ("run P", [&[2], &[], &[], &[]], FOLDER_FAULT, "<bb"),
+    ("run P", [&[], &[1], &[], &[0]], OF_INPUT, ""),
+    ("run P", [&[2], &[], &[], &[0]], OF_FOLDER, "<bb"),
+    ("run P", [&[0], &[0], &[0], &[]], FOLDER_FAULT, ""),
+    ("run P", [&[1], &[], &[0], &[]], WRITE_FAULT, ""),
+    ("report P", [&[0], &[], &[], &[]], FOLDER_FAULT, ""),
+    ("report P", [&[1], &[], &[], &[]], FOLDER_FAULT, ""),
+    ("report P", [&[2], &[], &[], &[]], FOLDER_FAULT, ""),
+    ("report P", [&[], &[], &[0], &[]], WRITE_FAULT, ""),
+];
+
+#[test]
+fn faults_of_the_outside_are_told_and_leave_the_files(rt: HostRuntime) -> Result<(), Fail> {
+    let alloc = rt.alloc();
+    let whole = whole_folder(alloc, &[])?;
+    let code = file_in(alloc, &whole, "P.code")?;
+    let notes = file_in(alloc, &whole, "P.gcno")?;
+    let data = file_in(alloc, &whole, "P.gcda")?;
+    for (words, fails, answer, out) in &ROWS {
+        let [in_folder, in_input, in_out, in_err] = *fails;
+        let mut folder = whole_folder(alloc, in_folder)?;
+        let case = Case {
+            words,
+            input: b"aa",
+            in_input,
+            in_out,
+            in_err,
+        };
+        let left = call_case(alloc, case, &mut folder)?;
+        assert_left(&rt, words, &left, *answer, out);
+        let files: [(&str, &[u8]); 3] = [("P.code", &code), ("P.gcno", &notes), ("P.gcda", &data)];
+        assert_files(&rt, words, &folder, &files);
     }
+    Ok(())
+}
+
+// What comes behind the calls that a command makes can fail unseen.
+#[test]
+fn no_more_calls_are_made_than_are_needed(rt: HostRuntime) -> Result<(), Fail> {
+    let alloc = rt.alloc();
+    // The words, what fails, and the answer.
+    let rows: [(&str, Fails<'_>, Answer<'_>); 3] = [
+        ("cover P.c aa.txt", [&[2], &[0], &[1], &[0]], DONE),
+        ("run P", [&[3], &[2], &[1], &[0]], ("Ran(3)", 3, "")),
+        ("report P", [&[3], &[0], &[1], &[0]], DONE),
+    ];
+    for (words, fails, answer) in rows {
+        let [in_folder, in_input, in_out, in_err] = fails;
+        let mut folder = whole_folder(alloc, in_folder)?;
+        let case = Case {
+            words,
+            input: b"aa",
+            in_input,
+            in_out,
+            in_err,
+        };
+        let left = call_case(alloc, case, &mut folder)?;
+        assert_left(&rt, words, &left, answer, left.out.as_str());
+        assert!(rt; !left.out.is_empty(), "on {words}");
+    }
+    Ok(())
+}
+
+#[test]
+fn a_run_whose_data_were_not_replaced_counts_nowhere(rt: HostRuntime) -> Result<(), Fail> {
+    let alloc = rt.alloc();
+    let mut folder = whole_folder(alloc, &[2])?;
+    let failed = call(alloc, "run P", b"aa", &mut folder)?;
+    assert_left(&rt, "the third call", &failed, FOLDER_FAULT, "<bb");
+    let next = call(alloc, "run P", b"aaa", &mut folder)?;
+    assert_left(&rt, "the next run", &next, ("Ran(3)", 3, ""), "<bbb");
+    let mut other = whole_folder(alloc, &[])?;
+    call(alloc, "run P", b"aaa", &mut other)?;
+    let data = file_in(alloc, &other, "P.gcda")?;
+    assert_files(&rt, "the next run", &folder, &[("P.gcda", &data)]);
     Ok(())
 }

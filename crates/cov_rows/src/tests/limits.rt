@@ -1,6 +1,9 @@
-//! The limits on outputs, inputs and sources.
+//! The limits on outputs, inputs, sources and files.
 
-use super::{assert_done, assert_refused, run_on};
+use super::sources::LOOP;
+use super::{Answer, DONE, assert_absent, assert_left, built, call, folder_of, front};
+use std::alloc::Global;
+use std::process::Abort;
 use std::test::Fail;
 
 /// Puts a `b` for each `a` of its input.
@@ -14,6 +17,8 @@ return 0;
 
 #[test]
 fn a_full_output_stops_the_run_and_counts_nowhere(rt: HostRuntime) -> Result<(), Fail> {
+    let alloc = rt.alloc();
+    // How many bytes are taken, how the text begins, and what stands behind the output.
     let rows = [
         (
             16_777_216,
@@ -48,31 +53,18 @@ fn a_full_output_stops_the_run_and_counts_nowhere(rt: HostRuntime) -> Result<(),
 ",
         ),
     ];
-    for (count, front, end) in rows {
-        let input = vec![in rt.alloc(); b'a'; count]?;
-        let answered = run_on(rt.alloc(), COPIES, &input)?;
-        assert_done(&rt, front, &answered);
-        let output = answered
-            .out
-            .strip_prefix(front)
-            .and_then(|rest| rest.strip_suffix(end))
-            .ok_or("another text")?;
-        assert_eq!(rt; output.len(), 16_777_214, "on {count} bytes");
+    for (count, front, listing) in rows {
+        let input = vec![in alloc; b'a'; count]?;
+        let files: [(&str, &[u8]); 2] = [("F.c", COPIES.as_bytes()), ("aa.txt", &input)];
+        let mut folder = folder_of(alloc, &files, &[])?;
+        let left = call(alloc, "cover F.c aa.txt", b"", &mut folder)?;
+        assert_left(&rt, front, &left, DONE, left.out.as_str());
+        let rest = left.out.strip_prefix(front).ok_or("another front")?;
+        let output = rest.get(..16_777_214).ok_or("another output")?;
+        let behind = rest.get(16_777_214..).ok_or("another output")?;
         assert!(rt; output.bytes().all(|b| b == b'b'), "on {count} bytes");
+        assert!(rt; behind.starts_with(listing), "on {count} bytes");
     }
-    Ok(())
-}
-
-#[test]
-fn an_input_past_the_limit_is_too_long(rt: HostRuntime) -> Result<(), Fail> {
-    let source = "int main(void) {\nreturn 0;\n}\n";
-    let mut input = vec![in rt.alloc(); b'a'; 67_108_864]?;
-    let most = run_on(rt.alloc(), source, &input)?;
-    assert_done(&rt, "the longest input", &most);
-    input.push(b'a')?;
-    let over = run_on(rt.alloc(), source, &input)?;
-    let answer = ("TooLong(\"aa.txt\")", "cov: too long aa.txt\n");
-    assert_refused(&rt, "a longer input", &over, answer);
     Ok(())
 }
 
@@ -86,17 +78,104 @@ fn the_longest_source_is_covered(rt: HostRuntime) -> Result<(), Fail> {
     }
     source.push_str("while (getchar() == 'a') {\n}\nreturn 100;\n}\n")?;
     assert_eq!(rt; source.len(), 1_048_576);
-    let answered = run_on(alloc, source.as_str(), b"aa")?;
-    assert_done(&rt, "the longest source", &answered);
+    let files: [(&str, &[u8]); 2] = [("F.c", source.as_bytes()), ("aa.txt", b"aa")];
+    let mut folder = folder_of(alloc, &files, &[])?;
+    let left = call(alloc, "cover F.c aa.txt", b"", &mut folder)?;
+    assert_left(&rt, "the longest source", &left, DONE, left.out.as_str());
     let front = "run aa.txt: returned 100, 74894 bytes\nbbb";
-    assert!(rt; answered.out.starts_with(front));
-    let end = "
+    assert!(rt; left.out.starts_with(front));
+    let lines = "
         1:74895:putchar('b');
         3:74896:while (getchar() == 'a') {
         -:74897:}
         1:74898:return 100;
         -:74899:}
+function main called 1 returned 1 exited 0
 ";
-    assert!(rt; answered.out.ends_with(end));
+    assert!(rt; left.out.contains(lines));
+    assert!(rt; left.out.contains("\nlines 74897 of 74897\n"));
+    Ok(())
+}
+
+/// The answer to a file of this name that is too long, as `Debug` prints it, and its line.
+fn too_long(alloc: Global, name: &str) -> Result<(String, String), Fail> {
+    let end = format!(in alloc; "TooLong(\"{name}\")")?;
+    let line = format!(in alloc; "cov: too long {name}\n")?;
+    Ok((end, line))
+}
+
+#[test]
+fn sources_past_the_limit_are_too_long(rt: HostRuntime) -> Result<(), Fail> {
+    let alloc = rt.alloc();
+    let over = vec![in alloc; b'\n'; 1_048_577]?;
+    let no_main = (
+        "SourceRefused(NotAccepted(Types(NoMain(0))))",
+        120,
+        "cov: source: no main at byte 0\n",
+    );
+    let over_long = ("TooLong(\"F.c\")", 120, "cov: too long F.c\n");
+    // The words, how many bytes the source has, and the answer.
+    let rows: [(&str, usize, Answer<'_>); 6] = [
+        ("build F.c", 1_048_576, no_main),
+        ("build F.c", 1_048_577, over_long),
+        ("build --plain F.c", 1_048_576, no_main),
+        ("build --plain F.c", 1_048_577, over_long),
+        ("cover F.c no.txt", 1_048_576, no_main),
+        ("cover F.c no.txt", 1_048_577, over_long),
+    ];
+    for (words, count, answer) in rows {
+        let mut folder = folder_of(alloc, &[("F.c", front(&over, count)?)], &[])?;
+        let left = call(alloc, words, b"", &mut folder)?;
+        assert_left(&rt, words, &left, answer, "");
+        assert_absent(&rt, &folder, &["F.code", "F.gcno"]);
+    }
+    Ok(())
+}
+
+/// Asserts that the words of each row name its file, which has a byte too many.
+fn assert_too_long(rt: &(impl AllocGlobal + Abort), rows: &[(&str, &str)]) -> Result<(), Fail> {
+    let alloc = rt.alloc();
+    let over = vec![in alloc; b'a'; 67_108_865]?;
+    for (words, name) in rows {
+        let files: [(&str, &[u8]); 2] = [("P.c", LOOP.as_bytes()), (name, &over)];
+        let mut folder = folder_of(alloc, &files, &[])?;
+        let left = call(alloc, words, b"", &mut folder)?;
+        let (end, line) = too_long(alloc, name)?;
+        let answer = (end.as_str(), 120, line.as_str());
+        assert_left(rt, words, &left, answer, "");
+    }
+    Ok(())
+}
+
+#[test]
+fn inputs_and_code_past_the_limit_are_too_long(rt: HostRuntime) -> Result<(), Fail> {
+    assert_too_long(&rt, &[("cover P.c F.txt", "F.txt"), ("run F", "F.code")])
+}
+
+#[test]
+fn notes_and_data_past_the_limit_are_too_long(rt: HostRuntime) -> Result<(), Fail> {
+    assert_too_long(&rt, &[("report F", "F.gcno"), ("merge F G H", "F.gcda")])
+}
+
+#[test]
+fn standard_input_past_the_limit_is_too_long(rt: HostRuntime) -> Result<(), Fail> {
+    let alloc = rt.alloc();
+    let code = built(alloc, "build F.c", "int main(void) { return getchar(); }")?;
+    let input = vec![in alloc; 7; 67_108_865]?;
+    // How many bytes standard input has, and the answer.
+    let rows = [
+        (67_108_864, ("Ran(7)", 7, "")),
+        (
+            67_108_865,
+            ("TooLong(\"input\")", 120, "cov: too long input\n"),
+        ),
+    ];
+    for (count, answer) in rows {
+        let mut folder = folder_of(alloc, &[("F.code", &code)], &[])?;
+        let left = call(alloc, "run F", front(&input, count)?, &mut folder)?;
+        assert_left(&rt, "an input", &left, answer, "");
+        let has_data = folder.get("F.gcda").is_some();
+        assert_eq!(rt; has_data, count == 67_108_864, "on {count} bytes");
+    }
     Ok(())
 }

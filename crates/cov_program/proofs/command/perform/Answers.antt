@@ -1,5 +1,5 @@
 -- What was done is the answer's; what was written of its line is a front of it, and all of it but for a fault or a want of memory.
-use Rattle.cov_program.proofs.WriteLaws.{told_of}
+use Rattle.cov_answers.proofs.WriteLaws.{told_of}
 use Rattle.cov_program.proofs.command.perform.Goals as goal
 
 pub returns-clause-performs : goal.returns-clause-performs
