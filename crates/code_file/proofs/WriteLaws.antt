@@ -1,9 +1,10 @@
 -- What can be written of a code that breaks no rule.
-use Rattle.std.proofs.Common.{◌≡◌, ℕ, zero, suc, ◌+◌, ◌<◌, ◌≤◌, true, List, [], ◌∷◌, length}
-use Rattle.std.proofs.Common.{arith}
+use Rattle.std.proofs.Common.{◌≡◌, ℕ, zero, suc, ◌+◌, ◌<◌, ◌≤◌, true, List, [], ◌∷◌, ◌++◌, length, get_or, drop}
+use Rattle.std.proofs.Common.{arith, ap, sym, ◌∙◌, append_assoc}
 use Rattle.std.proofs.Common.{None}
 use Rattle.std.specs.Prelude.{ℤ, nat_lt, nat_le}
-use Rattle.std.specs.List.{All}
+use Rattle.std.specs.List.{All, flat_map}
+use Rattle.std.proofs.lemmas.List.{at_drop_more}
 use Rattle.std.proofs.lemmas.Bool.{ltb-true, leb-true}
 use Rattle.cov_base.specs.Limits.{array_limit}
 use Rattle.stack_ops.specs.declared.operation.Op.{Op}
@@ -86,3 +87,12 @@ writes c h =
       few = (let h = functions_few c 0 0 0 c.functions (omega arith) rest.1 in omega (arith, h));
       functions = functions_writable c 0 0 0 c.functions rest.1;
     }
+
+-- What is written, and what is not yet, are all, and so they are one item on.
+pub written_more : {X : Type 0} (f : X → List ℕ) (xs : List X) (i : ℕ) (d : X) (before after all : List ℕ)
+    → i < length xs → after ≡ before ++ f (get_or xs i d) → before ++ flat_map f (drop i xs) ≡ all
+    → after ++ flat_map f (drop (i + 1) xs) ≡ all
+written_more f xs i d before after all lt is so =
+    ap (λ (l : List ℕ). l ++ flat_map f (drop (i + 1) xs)) is
+    ∙ (append_assoc before (f (get_or xs i d)) (flat_map f (drop (i + 1) xs))
+    ∙ (sym (at_drop_more (λ rest. before ++ flat_map f rest) xs i d lt) ∙ so))

@@ -1,10 +1,12 @@
 //! The writer of a code.
 
-ghost use Rattle.std.specs.Prelude.{◌≡◌, ◌++◌, ◌∷◌, [], true, OnOk, IfOk, None};
+ghost use Rattle.std.specs.Prelude.{◌≡◌, ◌<◌, ◌^◌, ◌++◌, ◌∷◌, [], true, OnOk, IfOk, None};
 ghost use Rattle.std.specs.List.{All};
 ghost use Rattle.code_runs.specs.CodeChecks.{is_number, number_there, code_fault};
 ghost use Rattle.int_ops.specs.Codes.{type_code};
+ghost use Rattle.code_file.specs.InWords.{FitWords, words_of, IsFunctionInWords};
 ghost use Rattle.code_file.specs.OpItems as item;
+ghost use Rattle.code_file.specs.Reading.{File, told};
 ghost use Rattle.code_file.specs.Spelling as spec;
 
 use crate::op_items::{Fields, fields_of, op_code};
@@ -18,10 +20,11 @@ pub const MAGIC: u32 = 0x70636f64;
 
 pub const VERSION: u32 = 0x50323072;
 
-/// The file of the code.
+/// The file of the code, which is read as this code.
 pub fn write_code(alloc: Global, code: &Code) -> Result<Vec<u8>, NoMemory>
     requires { code_fault code.now ≡ None }
-    ensures { IfOk result (λ bytes. bytes.items ≡ spec.code_bytes code.now) }
+    ensures spelled { IfOk result (λ bytes. bytes.items ≡ spec.code_bytes code.now) }
+    ensures reads { IfOk result (λ bytes. told bytes.items ≡ File code.now) }
 {
     let mut out = Vec::new(alloc);
     let globals = code.globals.len() as u32;
@@ -44,7 +47,8 @@ pub fn write_code(alloc: Global, code: &Code) -> Result<Vec<u8>, NoMemory>
 
 #[tactic(auto, unfolding(crate::specs::Spelling::words_bytes))]
 fn put_words(out: &mut Vec<u8>, words: &[u32]) -> Result<(), NoMemory>
-    ensures { OnOk result (out.new.items ≡ out.old.items ++ spec.words_bytes words.now) }
+    ensures spelled { OnOk result (out.new.items ≡ out.old.items ++ spec.words_bytes words.now) }
+    ensures fit { OnOk result (FitWords words.now) }
 {
     for n in words.iter() {
         put_word(out, *n)?;
@@ -66,7 +70,8 @@ fn put_globals(out: &mut Vec<u8>, globals: &[i128]) -> Result<(), NoMemory>
 #[tactic(auto, unfolding(crate::specs::Spelling::functions_bytes))]
 fn put_functions(out: &mut Vec<u8>, functions: &[FunctionCode]) -> Result<(), NoMemory>
     requires { All (λ f. spec.IsWritable f) functions.now }
-    ensures { OnOk result (out.new.items ≡ out.old.items ++ spec.functions_bytes functions.now) }
+    ensures spelled { OnOk result (out.new.items ≡ out.old.items ++ spec.functions_bytes functions.now) }
+    ensures fit { OnOk result (All (λ f. IsFunctionInWords f) functions.now) }
 {
     for function in functions.iter() {
         put_function(out, function)?;
@@ -76,7 +81,8 @@ fn put_functions(out: &mut Vec<u8>, functions: &[FunctionCode]) -> Result<(), No
 
 fn put_function(out: &mut Vec<u8>, function: &FunctionCode) -> Result<(), NoMemory>
     requires { spec.IsWritable function.now }
-    ensures { OnOk result (out.new.items ≡ out.old.items ++ spec.function_bytes function.now) }
+    ensures spelled { OnOk result (out.new.items ≡ out.old.items ++ spec.function_bytes function.now) }
+    ensures fit { OnOk result (IsFunctionInWords function.now) }
 {
     put_words(
         out,
@@ -99,7 +105,8 @@ fn put_function(out: &mut Vec<u8>, function: &FunctionCode) -> Result<(), NoMemo
 #[tactic(auto, unfolding(crate::specs::Spelling::ops_bytes))]
 fn put_ops(out: &mut Vec<u8>, ops: &[Op]) -> Result<(), NoMemory>
     requires { All (λ o. number_there o ≡ true) ops.now }
-    ensures { OnOk result (out.new.items ≡ out.old.items ++ spec.ops_bytes ops.now) }
+    ensures spelled { OnOk result (out.new.items ≡ out.old.items ++ spec.ops_bytes ops.now) }
+    ensures fit { OnOk result (All (λ o. FitWords (words_of (item.fields_of o))) ops.now) }
 {
     for op in ops.iter() {
         put_op(out, op)?;
@@ -109,7 +116,8 @@ fn put_ops(out: &mut Vec<u8>, ops: &[Op]) -> Result<(), NoMemory>
 
 #[tactic(auto, unfolding(crate::specs::Spelling::table_bytes))]
 fn put_table(out: &mut Vec<u8>, table: &[u64]) -> Result<(), NoMemory>
-    ensures { OnOk result (out.new.items ≡ out.old.items ++ spec.table_bytes table.now) }
+    ensures spelled { OnOk result (out.new.items ≡ out.old.items ++ spec.table_bytes table.now) }
+    ensures fit { OnOk result (All (λ n. n < 2 ^ 64) table.now) }
 {
     for n in table.iter() {
         put_long(out, *n)?;
@@ -119,7 +127,8 @@ fn put_table(out: &mut Vec<u8>, table: &[u64]) -> Result<(), NoMemory>
 
 fn put_op(out: &mut Vec<u8>, op: &Op) -> Result<(), NoMemory>
     requires { number_there op.now ≡ true }
-    ensures { OnOk result (out.new.items ≡ out.old.items ++ item.op_bytes op.now) }
+    ensures spelled { OnOk result (out.new.items ≡ out.old.items ++ item.op_bytes op.now) }
+    ensures fit { OnOk result (FitWords (words_of (item.fields_of op.now))) }
 {
     out.push(op_code(op))?;
     put_fields(out, fields_of(op))
@@ -127,7 +136,8 @@ fn put_op(out: &mut Vec<u8>, op: &Op) -> Result<(), NoMemory>
 
 fn put_fields(out: &mut Vec<u8>, fields: Fields) -> Result<(), NoMemory>
     requires { item.field_there fields ≡ true }
-    ensures { OnOk result (out.new.items ≡ out.old.items ++ item.field_bytes fields) }
+    ensures spelled { OnOk result (out.new.items ≡ out.old.items ++ item.field_bytes fields) }
+    ensures fit { OnOk result (FitWords (words_of fields)) }
 {
     match fields {
         Fields::None => Ok(()),
