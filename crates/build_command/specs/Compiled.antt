@@ -1,8 +1,6 @@
 -- Sources that commands load and compile.
-use Rattle.std.specs.Prelude.{◌≡◌, ℕ, List, Option, Result, Ok, Err}
-use Rattle.cov_base.specs.Limits.{source_limit}
+use Rattle.std.specs.Prelude.{ℕ, List, Result, Ok, Err}
 use Rattle.cov_base.specs.declared.refusal.Refusal.TheVariants as refusal
-use Rattle.cov_outside.specs.Outside.{Files}
 use Rattle.stack_ops.specs.Code.{CodeValue}
 use Rattle.stack_code.specs.declared.shape.EmitFault.TheVariants as emit_fault
 use Rattle.source_graphs.specs.SourceGraphs.{RefusesSource}
