@@ -1,3 +1,4 @@
 pub mod WithinLaws
 pub mod NameLaws
 pub mod ReadLaws
+pub mod MeantLaws

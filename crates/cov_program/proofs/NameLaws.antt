@@ -1,5 +1,5 @@
 -- A source's name is its stem and `.c`.
-use Rattle.std.proofs.Common.{◌≡◌, refl, ℕ, List, ◌++◌, Bool, true, false, codes, length}
+use Rattle.std.proofs.Common.{◌≡◌, refl, ℕ, List, ◌++◌, Bool, true, false, codes}
 use Rattle.std.specs.Prelude.{◌&&◌, ◌==◌}
 use Rattle.std.specs.List.{ends_with}
 use Rattle.std.proofs.lemmas.Bool.Decides.{Decides-eqb}

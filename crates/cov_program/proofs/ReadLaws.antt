@@ -19,7 +19,7 @@ use Rattle.file_commands.specs.Merge.{MergeSteps, SecondSteps, AddSteps}
 use Rattle.file_commands.specs.Report as reports
 use Rattle.file_commands.specs.Tallied as tallied
 use Rattle.file_commands.proofs.StopLaws.{merge_stops}
-use Rattle.cover_command.specs.Cover.{RunsAll, CoverSteps, ReportSteps}
+use Rattle.cover_command.specs.Cover.{RunsAll, CoverSteps}
 
 merge_answers : (found : MergeFault) → answer.ReadFault ≡ merged.answer_of found → ⊥
 merge_answers (merge_fault.OtherBuild a b) e = absurd (cc)

@@ -1,5 +1,5 @@
 -- A command that words give is within its limits.
-use Rattle.std.proofs.Common.{◌≡◌, refl, sym, ◌∙◌, ap, subst, ℕ, ◌≤◌, Bool, true, false, List, [], ◌∷◌, codes, arith}
+use Rattle.std.proofs.Common.{◌≡◌, refl, subst, ℕ, ◌≤◌, Bool, true, false, List, [], ◌∷◌, codes, arith}
 use Rattle.std.specs.Prelude.{◌&&◌, if◌then◌else◌, nat_le, Option, Some, None}
 use Rattle.clap.specs.Words.{Row, Text, first_of, fault_of, matches_of}
 use Rattle.clap.specs.Kinds.{Kinds}
@@ -10,8 +10,8 @@ use Rattle.std.proofs.lemmas.Bool.{leb-true}
 use Rattle.cov_words.specs.declared.syntax.CommandName.{CommandName}
 use Rattle.cov_words.specs.declared.syntax.CommandName.TheVariants as which
 use Rattle.cov_words.specs.Numbers.{number_in, is_number}
-use Rattle.cov_words.specs.Reading.{Reading, Reads, Faults, Misfits, CommandValue, Cover, Build, Run, Make}
-use Rattle.cov_words.specs.Reading.{with_number, with_source, reading, reading_of, reading_as, reading_by, unless_refused, is_conditions}
+use Rattle.cov_words.specs.Reading.{Reading, Reads, Faults, Misfits, CommandValue, Cover, Build, Make}
+use Rattle.cov_words.specs.Reading.{with_number, with_source, reading, reading_of, reading_by, unless_refused, is_conditions}
 use Rattle.cov_words.specs.Syntax.{named, app_for}
 use Rattle.cov_words.specs.Values.{number_by, number_or, turn_limit, path_limit, default_paths, turns_in, path_limit_in, made_in, text_in, texts_in, stands_in, is_source_name}
 use Rattle.cov_program.specs.Within.{IsWithin}

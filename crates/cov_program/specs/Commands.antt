@@ -1,6 +1,6 @@
 -- What each command does, and what it leaves as it was: a new one brings an equation to each definition here, and no
 -- clause of the top call changes.
-use Rattle.std.specs.Prelude.{◌≡◌, ℕ, true, false, List}
+use Rattle.std.specs.Prelude.{◌≡◌, true, false}
 use Rattle.cov_words.specs.declared.command.UsageFault.TheVariants as usage
 use Rattle.cov_words.specs.Reading.{CommandValue, Cover, Build, Run, Report, Merge, Make}
 use Rattle.cov_answers.specs.declared.answers.End.{End}

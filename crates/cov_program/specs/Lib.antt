@@ -1,4 +1,5 @@
 pub mod Outside
 pub mod Within
 pub mod Commands
+pub mod Meant
 pub mod Performs

@@ -1,5 +1,5 @@
 -- What the top call does with the words and the outside.
-use Rattle.std.specs.Prelude.{◌≡◌, ◌⊎◌, ℕ, true, List, IfSome}
+use Rattle.std.specs.Prelude.{◌≡◌, ◌⊎◌, true, IfSome}
 use Rattle.clap.specs.Kinds.{IsAmong}
 use Rattle.clap.specs.declared.error.kind.ErrorKind.{ErrorKind}
 use Rattle.cov_outside.specs.Outside.{HasCause, Rose}
@@ -12,6 +12,7 @@ use Rattle.cov_answers.specs.declared.answers.End.TheVariants as answer
 use Rattle.cov_answers.specs.Answers.{IsTold, line_of, is_silent}
 use Rattle.cov_program.specs.Outside.{Outside, Observed}
 use Rattle.cov_program.specs.Commands.{Does, LeavesInput, LeavesOutput, ChangesNothing}
+use Rattle.cov_program.specs.Meant.{IsMeant, IsComplete}
 
 -- the answer to words with this fault
 abbrev pub answer_of : WordsFault → End
@@ -38,10 +39,13 @@ pub record Acts (reading : Reading) (before after : Outside) (end : End) : Type 
   pub folder_fault : HasCause before.folder_faults after.folder_faults (end ≡ answer.FolderFault)
   pub output_wants : HasCause before.output_wants after.output_wants ⊥
 
--- The call acts so, and tells the line of its answer, whole but for a fault of the error output or a want of memory
--- there, whose counts never fall.
+-- The call acts so; what a cover has written is what its source means, and it is done where nothing keeps it from that;
+-- and the call tells the line of its answer, whole but for a fault of the error output or a want of memory there, whose
+-- counts never fall.
 pub record Performs (reading : Reading) (before after : Observed) (end : End) : Type 0 where
   pub acts : Acts reading before.outside after.outside end
+  pub meant : IsMeant reading before.outside after.outside end
+  pub complete : IsComplete reading before.outside end
   pub line : IfSome before.errors (λ errors. IsTold (line_of end) errors after.errors
       (Rose before.error_faults after.error_faults) (Rose before.error_wants after.error_wants))
   pub error_faults : HasCause before.error_faults after.error_faults ⊥

@@ -1,6 +1,6 @@
 -- What a command is given is within its limits.
-use Rattle.std.specs.Prelude.{◌≡◌, ℕ, ◌≤◌, ◌^◌, true}
-use Rattle.cov_words.specs.Reading.{CommandValue, Cover, Build, Run, Report, Merge, Make}
+use Rattle.std.specs.Prelude.{◌≡◌, ◌≤◌, true}
+use Rattle.cov_words.specs.Reading.{CommandValue, Cover, Build, Run}
 use Rattle.cov_words.specs.Values.{turn_limit, path_limit, is_source_name}
 
 -- turns and paths are no more than their limits, and a source's name ends in `.c` with a byte before

@@ -5,6 +5,7 @@ ghost use Rattle.cov_outside.specs.Memory.{sure_wants, sure_written};
 ghost use Rattle.cov_outside.specs.Outside.{Rose};
 ghost use Rattle.cov_answers.specs.Answers.{is_silent, line_of};
 ghost use Rattle.cov_words.specs.Reading.{reading};
+ghost use Rattle.cov_program.specs.Meant.{IsComplete, IsMeant};
 ghost use Rattle.cov_program.specs.Performs.{Answers, Leaves};
 ghost use Rattle.cov_rows.specs.Sure.{sure_outside};
 
@@ -25,6 +26,13 @@ pub fn perform_surely(
     ensures answers { Answers (reading (map string_bytes words.now))
         (sure_outside input.old out.old folder.old) (sure_outside input.new out.new folder.new)
         result }
+
+    // What a cover has written is what its source means, and where all is there it is done.
+    ensures meant { IsMeant (reading (map string_bytes words.now))
+        (sure_outside input.old out.old folder.old) (sure_outside input.new out.new folder.new)
+        result }
+    ensures complete { IsComplete (reading (map string_bytes words.now))
+        (sure_outside input.old out.old folder.old) result }
 
     // The outside is never blamed.
     ensures writes { result ≢ End.WriteFault }

@@ -25,11 +25,11 @@ use Rattle.run_merge.specs.Merging.{merge_fault}
 some_none : {A : Type 0} (o : Option A) (a : A) → o ≡ Some a → o ≡ None → ⊥
 some_none o a s n = cc
 
-some_once : {A : Type 0} (o : Option A) (a b : A) → o ≡ Some a → o ≡ Some b → b ≡ a
+pub some_once : {A : Type 0} (o : Option A) (a b : A) → o ≡ Some a → o ≡ Some b → b ≡ a
 some_once o a b s t = cc
 
 -- a file that is there and short is loaded
-loads_there : (files : Files) (name : List ℕ) (limit : ℕ) (bytes : List ℕ) (end : End) → files name ≡ Some bytes
+pub loads_there : (files : Files) (name : List ℕ) (limit : ℕ) (bytes : List ℕ) (end : End) → files name ≡ Some bytes
     → length bytes ≤ limit → LoadsFile (Some files) name limit (Err end) → IsOutside end
 loads_there files name limit bytes (answer.Missing missing) there fits h =
     absurd (some_none (files name) bytes there h.1)
@@ -56,7 +56,7 @@ data_there files name counts end has (inr h) =
     let same : h.0 ≡ has.bytes = some_once (files (data_name name)) has.bytes h.0 has.there h.1.0 in
     read_there has.bytes counts end has.reads (subst (λ (bs : List ℕ). ReadsData bs (Err end)) same h.2)
 
-data_once : (files : Files) (name : List ℕ) (counts others : DataValue) → HasData files name counts
+pub data_once : (files : Files) (name : List ℕ) (counts others : DataValue) → HasData files name counts
     → DataAt (Some files) name (Ok others) → others ≡ counts
 data_once files name counts others has h =
     let same : h.0 ≡ has.bytes = some_once (files (data_name name)) has.bytes h.0 has.there h.1.0 in
@@ -100,7 +100,7 @@ notes_there files name notes end has (inr h) =
     let same : h.0 ≡ has.bytes = some_once (files (notes_name name)) has.bytes h.0 has.there h.1.0 in
     notes_read has.bytes notes end has.reads (subst (λ (bs : List ℕ). ReadsNotes bs (Err end)) same h.2)
 
-notes_once : (files : Files) (name : List ℕ) (notes others : NotesValue) → HasNotes files name notes
+pub notes_once : (files : Files) (name : List ℕ) (notes others : NotesValue) → HasNotes files name notes
     → NotesAt (Some files) name (Ok others) → others ≡ notes
 notes_once files name notes others has h =
     let same : h.0 ≡ has.bytes = some_once (files (notes_name name)) has.bytes h.0 has.there h.1.0 in
@@ -121,7 +121,7 @@ source_there files name notes source end has (inr h) =
     let same : h.0 ≡ source = some_once (files (source_name name)) source h.0 has.there h.1.0 in
     noted_there notes source end files name has (subst (λ (bs : List ℕ). IsNoted notes bs (Err end)) same h.2)
 
-source_once : (files : Files) (name : List ℕ) (notes : NotesValue) (source other : List ℕ)
+pub source_once : (files : Files) (name : List ℕ) (notes : NotesValue) (source other : List ℕ)
     → HasSource files name notes source → SourceAt (Some files) name notes (Ok other) → other ≡ source
 source_once files name notes source other has h =
     let same : h.0 ≡ source = some_once (files (source_name name)) source h.0 has.there h.1.0 in
@@ -149,7 +149,7 @@ find_there : (files : Files) (name : List ℕ) (counts : Option DataValue) (end 
 find_there files name None end has h = none_there files name end has h
 find_there files name (Some counts) end has h = data_there files name counts end has (found_load files name end h)
 
-find_once : (files : Files) (name : List ℕ) (counts found : Option DataValue) → HasCounts files name counts
+pub find_once : (files : Files) (name : List ℕ) (counts found : Option DataValue) → HasCounts files name counts
     → FindsData (Some files) name (Ok found) → found ≡ counts
 find_once files name None None has h = refl
 find_once files name None (Some other) has h = absurd (some_none (files (data_name name)) h.0 h.1.0 has)

@@ -14,6 +14,12 @@ never_risen (inr full) = omega arith
 pub returns-clause-answers : goal.returns-clause-answers
 returns-clause-answers c = c.perform.ensures.performs.acts.answers
 
+pub returns-clause-meant : goal.returns-clause-meant
+returns-clause-meant c = c.perform.ensures.performs.meant
+
+pub returns-clause-complete : goal.returns-clause-complete
+returns-clause-complete c = c.perform.ensures.performs.complete
+
 pub returns-clause-writes : goal.returns-clause-writes
 returns-clause-writes c blamed = never_risen (c.perform.ensures.performs.acts.write_fault.risen blamed)
 

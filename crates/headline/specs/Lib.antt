@@ -1,0 +1,3 @@
+pub mod SourceRuns
+pub mod CoverText
+pub mod Laws
