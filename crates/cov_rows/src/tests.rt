@@ -4,15 +4,8 @@
 mod answers;
 mod builds;
 mod covers;
-mod data_files;
 mod faults;
-mod limits;
-mod merges;
-mod refusals;
-mod reports;
-mod runs;
 mod sources;
-mod surely;
 
 use cov_outside::{MemFolder, MemSink, MemSource, Source};
 use cov_program::{perform, status_of};
@@ -32,11 +25,7 @@ type Step<'a> = (&'a str, &'a [u8], Answer<'a>, &'a str);
 /// The answer where the command did all that it does.
 const DONE: Answer<'static> = ("Done", 0, "");
 
-/// The answers where standard input, the output or the folder failed.
-const READ_FAULT: Answer<'static> = ("ReadFault", 120, "cov: read fault\n");
-
-const WRITE_FAULT: Answer<'static> = ("WriteFault", 120, "cov: write fault\n");
-
+/// The answer where the folder failed.
 const FOLDER_FAULT: Answer<'static> = ("FolderFault", 120, "cov: folder fault\n");
 
 /// A call: its words and standard input, and the numbers of the calls of standard input, the output
@@ -162,28 +151,4 @@ fn assert_absent(rt: &impl Abort, folder: &MemFolder, names: &[&str]) {
 /// The file of a folder.
 fn file_in(alloc: Global, folder: &MemFolder, name: &str) -> Result<Vec<u8>, Fail> {
     Ok(folder.get(name).ok_or("no such file")?.to_vec(alloc)?)
-}
-
-/// The code file that these words build of F.c with this text.
-fn built(alloc: Global, words: &str, text: &str) -> Result<Vec<u8>, Fail> {
-    let mut folder = folder_of(alloc, &[("F.c", text.as_bytes())], &[])?;
-    call(alloc, words, b"", &mut folder)?;
-    file_in(alloc, &folder, "F.code")
-}
-
-/// The first bytes, so many.
-fn front(bytes: &[u8], count: usize) -> Result<&[u8], Fail> {
-    Ok(bytes.get(..count).ok_or("too few bytes")?)
-}
-
-/// These bytes with others in the place of those that begin at one.
-fn changed(alloc: Global, bytes: &[u8], at: usize, piece: &[u8]) -> Result<Vec<u8>, Fail> {
-    let mut whole = bytes.to_vec(alloc)?;
-    let mut place = at;
-    for byte in piece {
-        let old = whole.get_mut(place).ok_or("no such byte")?;
-        *old = *byte;
-        place = place.saturating_add(1);
-    }
-    Ok(whole)
 }

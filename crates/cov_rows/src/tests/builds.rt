@@ -28,8 +28,6 @@ const OLD: &[u8] = b"old";
 /// the stamp for no paths.
 const COVERED_CODE: &[u8] = b"docpr02P\xa3\xab\x98\xfa\x01\0\0\0";
 
-const PLAIN_CODE: &[u8] = b"docpr02P\xce\xc1\x0a\x23\0\0\0\0";
-
 #[test]
 fn a_build_replaces_notes_and_code(rt: HostRuntime) -> Result<(), Fail> {
     let alloc = rt.alloc();
@@ -53,20 +51,6 @@ fn a_build_replaces_notes_and_code(rt: HostRuntime) -> Result<(), Fail> {
     assert!(rt; code.starts_with(COVERED_CODE), "{code:?}");
     assert_steps(&rt, &mut folder, &[("build P.c", b"", DONE, "")])?;
     assert_files(&rt, "a second build", &folder, &[("P.code", &code)]);
-    Ok(())
-}
-
-#[test]
-fn a_plain_build_replaces_the_code_alone(rt: HostRuntime) -> Result<(), Fail> {
-    let alloc = rt.alloc();
-    let files: [(&str, &[u8]); 2] = [("P.c", LOOP.as_bytes()), ("P.code", OLD)];
-    let mut folder = folder_of(alloc, &files, &[])?;
-    let steps = [("build --plain P.c", b"".as_slice(), DONE, "")];
-    assert_steps(&rt, &mut folder, &steps)?;
-    assert_files(&rt, "a build", &folder, &[("P.c", LOOP.as_bytes())]);
-    assert_absent(&rt, &folder, &["P.gcno", "P.gcda", "P.c.code"]);
-    let code = file_in(alloc, &folder, "P.code")?;
-    assert!(rt; code.starts_with(PLAIN_CODE), "{code:?}");
     Ok(())
 }
 

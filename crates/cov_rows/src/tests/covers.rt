@@ -1,9 +1,6 @@
 //! What `cover` writes: a line for each run, and the report.
 
-use super::sources::{
-    EXITS, EXITS_REPORT, LOOP, LOOP_ON_AA, LOOP_ON_BOTH, LOOP_ON_NOTHING, RECURSION, RECURSION_CUT,
-    RECURSION_FRONT, RECURSION_LISTED, WORD_COUNTER, WORD_COUNTER_FRONT,
-};
+use super::sources::{LOOP, LOOP_ON_AA, LOOP_ON_BOTH, LOOP_ON_NOTHING};
 use super::{DONE, Outcome, assert_absent, assert_files, assert_left, call, folder_of};
 use std::alloc::Global;
 use std::process::Abort;
@@ -98,26 +95,6 @@ fn runs_out_of_turns_count_nowhere(rt: HostRuntime) -> Result<(), Fail> {
                     LOOP_ON_NOTHING,
                     "",
                 ],
-            ),
-        ],
-    )
-}
-
-#[test]
-fn exits_and_calls_of_itself_are_counted(rt: HostRuntime) -> Result<(), Fail> {
-    let ran = "run e.txt: returned 1, 0 bytes\n";
-    let exited = "run e.txt: exited 5, 0 bytes\n";
-    let listed = [ran, RECURSION_FRONT, RECURSION_LISTED];
-    assert_covers(
-        &rt,
-        &[
-            ("P.c e.txt", EXITS, [exited, EXITS_REPORT, ""]),
-            ("P.c e.txt", RECURSION, listed),
-            ("P.c e.txt --path-limit 4", RECURSION, listed),
-            (
-                "--path-limit 3 P.c e.txt",
-                RECURSION,
-                [ran, RECURSION_FRONT, RECURSION_CUT],
             ),
         ],
     )
@@ -345,17 +322,4 @@ fn outputs_stand_behind_their_runs(rt: HostRuntime) -> Result<(), Fail> {
             ),
         ],
     )
-}
-
-#[test]
-fn words_of_an_input_are_counted(rt: HostRuntime) -> Result<(), Fail> {
-    let files: [(&str, &[u8]); 2] = [("W.c", WORD_COUNTER.as_bytes()), ("w.txt", b"a b\n")];
-    let mut folder = folder_of(rt.alloc(), &files, &[])?;
-    let left = call(rt.alloc(), "cover W.c w.txt", b"", &mut folder)?;
-    assert_left(&rt, "words", &left, DONE, left.out.as_str());
-    assert!(rt; left.out.starts_with(WORD_COUNTER_FRONT), "{:?}", left.out);
-    for piece in ["\nlines 22 of 23\n", "\ncalls 3 of 4\n"] {
-        assert!(rt; left.out.contains(piece), "{:?}", left.out);
-    }
-    Ok(())
 }

@@ -1,8 +1,8 @@
 //! Faults of the folder, of standard input, of the output and of the error output.
 
 use super::{
-    Answer, Case, DONE, FOLDER_FAULT, READ_FAULT, WRITE_FAULT, assert_files, assert_left, call,
-    call_case, file_in, folder_of,
+    Answer, Case, DONE, FOLDER_FAULT, assert_files, assert_left, call, call_case, file_in,
+    folder_of,
 };
 use cov_outside::MemFolder;
 use std::alloc::Global;
@@ -37,66 +37,6 @@ fn whole_folder(alloc: Global, fails: &[u64]) -> Result<MemFolder, Fail> {
         ("aa.txt", b"aa"),
     ];
     Ok(folder_of(alloc, &files, fails)?)
-}
-
-const OF_FOLDER: Answer<'static> = ("FolderFault", 120, "");
-
-const OF_INPUT: Answer<'static> = ("ReadFault", 120, "");
-
-const OF_OUTPUT: Answer<'static> = ("WriteFault", 120, "");
-
-/// The words, what fails, the answer, and what was written.
-const ROWS: [(&str, Fails<'static>, Answer<'static>, &str); 20] = [
-    ("cover P.c aa.txt", [&[0], &[], &[], &[]], FOLDER_FAULT, ""),
-    ("cover P.c aa.txt", [&[1], &[], &[], &[]], FOLDER_FAULT, ""),
-    (
-        "cover P.c aa.txt no",
-        [&[2], &[], &[], &[]],
-        FOLDER_FAULT,
-        "",
-    ),
-    ("cover P.c aa.txt", [&[], &[], &[0], &[]], WRITE_FAULT, ""),
-    ("cover P.c aa.txt", [&[1], &[], &[], &[0]], OF_FOLDER, ""),
-    ("cover P.c aa.txt", [&[], &[], &[0], &[0]], OF_OUTPUT, ""),
-    ("run P", [&[0], &[], &[], &[]], FOLDER_FAULT, ""),
-    ("run P", [&[], &[0], &[], &[]], READ_FAULT, ""),
-    ("run P", [&[], &[1], &[], &[]], READ_FAULT, ""),
-    ("run P", [&[], &[], &[0], &[]], WRITE_FAULT, ""),
-    ("run P", [&[1], &[], &[], &[]], FOLDER_FAULT, "<bb"),
-    ("run P", [&[2], &[], &[], &[]], FOLDER_FAULT, "<bb"),
-    ("run P", [&[], &[1], &[], &[0]], OF_INPUT, ""),
-    ("run P", [&[2], &[], &[], &[0]], OF_FOLDER, "<bb"),
-    ("run P", [&[0], &[0], &[0], &[]], FOLDER_FAULT, ""),
-    ("run P", [&[1], &[], &[0], &[]], WRITE_FAULT, ""),
-    ("report P", [&[0], &[], &[], &[]], FOLDER_FAULT, ""),
-    ("report P", [&[1], &[], &[], &[]], FOLDER_FAULT, ""),
-    ("report P", [&[2], &[], &[], &[]], FOLDER_FAULT, ""),
-    ("report P", [&[], &[], &[0], &[]], WRITE_FAULT, ""),
-];
-
-#[test]
-fn faults_of_the_outside_are_told_and_leave_the_files(rt: HostRuntime) -> Result<(), Fail> {
-    let alloc = rt.alloc();
-    let whole = whole_folder(alloc, &[])?;
-    let code = file_in(alloc, &whole, "P.code")?;
-    let notes = file_in(alloc, &whole, "P.gcno")?;
-    let data = file_in(alloc, &whole, "P.gcda")?;
-    for (words, fails, answer, out) in &ROWS {
-        let [in_folder, in_input, in_out, in_err] = *fails;
-        let mut folder = whole_folder(alloc, in_folder)?;
-        let case = Case {
-            words,
-            input: b"aa",
-            in_input,
-            in_out,
-            in_err,
-        };
-        let left = call_case(alloc, case, &mut folder)?;
-        assert_left(&rt, words, &left, *answer, out);
-        let files: [(&str, &[u8]); 3] = [("P.code", &code), ("P.gcno", &notes), ("P.gcda", &data)];
-        assert_files(&rt, words, &folder, &files);
-    }
-    Ok(())
 }
 
 // What comes behind the calls that a command makes can fail unseen.
