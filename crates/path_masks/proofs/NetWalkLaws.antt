@@ -73,7 +73,7 @@ use Rattle.prime_paths.specs.Paths.{
   is_path,
   is_simple,
   goes_on,
-  IsPrime,
+  is_simple_path,
   ArePrimes,
 }
 use Rattle.prime_paths.specs.Lister.{numbers}
@@ -107,6 +107,10 @@ use Rattle.path_masks.specs.NetWalks.{
   walked_by,
   IsWalk,
   RowsNameWords,
+  AreFollowable,
+  PrimesAreFollowable,
+  PathsAreFollowed,
+  PathsAreSeen,
   PrimesAreFollowed,
   PrimesAreSeen,
 }
@@ -141,10 +145,10 @@ record IsLow (p : List ℕ) : Type 0 where
   some : Some_in p
   low : AreLow p
 
-prime_low : (net : NetValue) (p : List ℕ) → IsPrime net p → IsLow p
-prime_low net p h = record {
-  some = some_path net p h.simple;
-  low = path_low net p (and_parts (is_path net p) (is_simple p) h.simple).0;
+simple_low : (net : NetValue) (p : List ℕ) → is_simple_path net p ≡ true → IsLow p
+simple_low net p h = record {
+  some = some_path net p h;
+  low = path_low net p (and_parts (is_path net p) (is_simple p) h).0;
 }
 
 -- the entry in front of a walk changes nothing for such a path
@@ -467,26 +471,39 @@ rows_name_words arcs ps rows are = (
 
 -- ---- the laws
 
-given_by : (net : NetValue) (ps : List (List ℕ)) (rows : RowsValue) → IsNet net → ArePrimes net ps
+pub primes_followable : PrimesAreFollowable
+primes_followable net paths is primes = record {
+  simple = λ p m. (primes.sound p m).simple;
+  size = (fit_primes net paths is primes).size;
+}
+
+given_by : (net : NetValue) (ps : List (List ℕ)) (rows : RowsValue) → IsNet net → AreFollowable net ps
     → AreRows net.arcs ps rows → Given net ps rows
-given_by net ps rows is primes are = record {
+given_by net ps rows is able are = record {
   net_is = is;
-  fit = fit_primes net ps is primes;
-  low = λ p m. prime_low net p (primes.sound p m);
+  fit = record { simple = λ p m. (and_parts (is_path net p) (is_simple p) (able.simple p m)).1; size = able.size };
+  low = λ p m. simple_low net p (able.simple p m);
   rows_are = are;
 }
 
-pub primes_followed : PrimesAreFollowed
-primes_followed net limit paths rows is lists are walk old ws walks wide seen =
-    let f = follows net paths rows (given_by net paths rows is lists.0 are) old walk ws walks (wide ∙ are.width) seen in
+pub paths_followed : PathsAreFollowed
+paths_followed net paths rows is able are walk old ws walks wide seen =
+    let f = follows net paths rows (given_by net paths rows is able are) old walk ws walks (wide ∙ are.width) seen in
     (f.bits, f.seen)
 
-pub primes_seen : PrimesAreSeen
-primes_seen net limit paths rows is lists are walks ws each wide seen =
-    all_follow net paths rows (given_by net paths rows is lists.0 are) (λ p. false) walks ws each (wide ∙ are.width)
+pub paths_seen : PathsAreSeen
+paths_seen net paths rows is able are walks ws each wide seen =
+    all_follow net paths rows (given_by net paths rows is able are) (λ p. false) walks ws each (wide ∙ are.width)
     (seen ∙ ap (λ n. replicate n 0) are.width ∙ zeros 0 (width paths))
   where
     zeros : (from n : ℕ) → replicate n 0 ≡ map (λ i. word_of (λ p. false) (chunk paths i)) (numbers from n)
     zeros from zero = refl
     zeros from (suc n) = ap₂ (λ (x : ℕ) (l : List ℕ). x ∷ l) (sym (word_none (λ p. false) (chunk paths from) (λ p m. refl)))
         (zeros (suc from) n)
+
+pub primes_followed : PrimesAreFollowed
+primes_followed net limit paths rows is lists =
+    paths_followed net paths rows is (primes_followable net paths is lists.0)
+
+pub primes_seen : PrimesAreSeen
+primes_seen net limit paths rows is lists = paths_seen net paths rows is (primes_followable net paths is lists.0)

@@ -3,6 +3,7 @@
 ghost use Rattle.path_masks.specs.Laws.{BitsTell, TestsDecide, WalkBegins, WalkGoesOn};
 ghost use Rattle.path_masks.specs.Laws.{WalksAreSeen, PrimesAreFit};
 ghost use Rattle.path_masks.specs.NetWalks.{RowsNameWords, PrimesAreFollowed, PrimesAreSeen};
+ghost use Rattle.path_masks.specs.NetWalks.{PathsAreFollowed, PathsAreSeen, PrimesAreFollowable};
 
 /// Along any walk the bits are exactly those of the paths under way, and the words seen gain
 /// exactly the bits of the paths that the walk contains.
@@ -27,4 +28,16 @@ pub fn primes()
     ensures words { RowsNameWords }
     ensures follow { PrimesAreFollowed }
     ensures seen { PrimesAreSeen }
+{}
+
+/// What `rows_of` gives for any simple paths of a net, prime or not, each of two or more blocks or
+/// the net's first block alone: along any walk of the net the bits are exactly those of the paths
+/// under way, and after any walks the words seen are exactly the bits of the paths that some walk
+/// contains. Prime paths are such paths.
+///
+/// It does nothing: a caller gets its clauses.
+pub fn simple_paths()
+    ensures primes { PrimesAreFollowable }
+    ensures follow { PathsAreFollowed }
+    ensures seen { PathsAreSeen }
 {}
