@@ -31,7 +31,7 @@ impl<R: Files> Folder for DirFolder<R> {
 
     ghost faults = { λ d. d.calls.faults };
 
-    /// Reads at most one piece of 4,096 bytes past the limit.
+    /// Reads at most one piece of 65,536 bytes past the limit.
     fn load(&mut self, name: &str, limit: usize) -> Result<Option<Vec<u8>>, LoadFault> {
         load_file(self.alloc, &mut self.calls, name, limit)
     }

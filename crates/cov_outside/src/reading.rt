@@ -7,7 +7,7 @@ use crate::source::Source;
 use std::alloc::Global;
 
 /// How many bytes one read takes at most.
-const PIECE: usize = 4096;
+const PIECE: usize = 65_536;
 
 /// The bytes left, to the end; no more than `limit` of them are.
 ///

@@ -25,7 +25,7 @@ use crate::file_calls::FileCalls;
 use std::alloc::Global;
 
 /// How many bytes one read takes at most.
-const PIECE: usize = 4096;
+const PIECE: usize = 65_536;
 
 /// The bytes under the name, at most `limit` of them.
 pub(crate) fn load_file<C: FileCalls>(
