@@ -7,6 +7,7 @@ pub mod StoreLaws
 pub mod CallLaws
 pub mod CountOps
 pub mod OneMore
+pub mod QuickLaws
 pub mod BitLaws
 pub mod BeginLaws
 pub mod RowStartLaws

@@ -1,3 +1,4 @@
+pub mod Ints
 pub mod Store
 pub mod Bits
 pub mod Counts

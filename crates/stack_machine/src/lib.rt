@@ -16,6 +16,7 @@ mod jump_ops;
 pub mod machine;
 mod operand_ops;
 mod operator_ops;
+mod quick;
 mod rows;
 mod run;
 mod step;

@@ -7,6 +7,7 @@ ghost use Rattle.stack_ops.specs.Effect as spec;
 ghost use Rattle.code_runs.specs.CodeRun.{stepped, state_of};
 ghost use Rattle.stack_machine.specs.Points.{Ghosts, point, told, Stays};
 
+use crate::quick::quick_of;
 use crate::run::Run;
 use int_ops::{ArithTrap, BinOp, IntType, UnOp, binary, unary};
 use stack_ops::{Outcome, Trap};
@@ -35,6 +36,11 @@ impl Run {
     {
         let b = self.store.pop();
         let a = self.store.pop();
+        if let Some(n) = quick_of(op, t, a, b) {
+            self.store.push(i128::from(n));
+            self.at += 1;
+            return None;
+        }
         match binary(op, t, a, b) {
             Ok(n) => {
                 self.store.push(n);
