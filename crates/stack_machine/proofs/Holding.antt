@@ -369,3 +369,11 @@ module _ (c : CodeValue) (facts : CodeFacts c) (k : ℕ) (r : Run) (s : Ghosts) 
         lighter = omega (arith, less, a, b);
         few = omega (arith, less, a, b, few);
       }
+
+-- ---- a run under way
+
+-- a run is at a point of the code's run, with few counts, and what comes from there comes from the start
+abbrev pub Under : CodeValue → List ℕ → List ℕ → Run → Point → Type 0
+Under c input output r start =
+    (t : Ghosts) × (k : ℕ) × Holds c k r (with_bytes input output t) × (k + weight c (point r nothing) ≤ 2 ^ 62)
+    × ((ran : Ran) → EndsSo c (point r (with_bytes input output t)) ran → EndsSo c start ran)

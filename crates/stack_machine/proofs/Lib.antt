@@ -3,6 +3,7 @@ pub mod TableLaws
 pub mod CodeFacts
 pub mod TidyMoves
 pub mod Holding
+pub mod Finishing
 pub mod StoreLaws
 pub mod CallLaws
 pub mod CountOps

@@ -32,12 +32,16 @@ impl Run {
     {
         let mut here = self;
         loop {
-            let f = &code.functions[here.function];
-            let starts = &rows[here.function];
-            let op = &f.ops[here.at];
-            match here.step(op, f, starts, code, io) {
-                Some(ending) => return (ending, here),
-                None => {}
+            let function = here.function;
+            let f = &code.functions[function];
+            let starts = &rows[function];
+            let ops = f.ops.as_slice();
+            while here.function == function {
+                let op = &ops[here.at];
+                match here.step(op, f, starts, code, io) {
+                    Some(ending) => return (ending, here),
+                    None => {}
+                }
             }
         }
     }
