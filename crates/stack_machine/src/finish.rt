@@ -11,7 +11,9 @@ use crate::streams::Streams;
 use stack_ops::{Code, Outcome};
 
 impl Run {
-    /// Runs a code from its start to its end. The run is moved, so that its place stays in registers.
+    /// Runs a code from its start to its end. The run is moved, and the loop stands in a function of
+    /// its own, so that its place stays in registers.
+    #[inline(never)]
     pub(crate) fn finish<S: Streams>(
         self,
         code: &Code,
@@ -36,12 +38,16 @@ impl Run {
             let f = &code.functions[function];
             let starts = &rows[function];
             let ops = f.ops.as_slice();
-            while here.function == function {
-                let op = &ops[here.at];
+            let mut op = &ops[here.at];
+            loop {
                 match here.step(op, f, starts, code, io) {
                     Some(ending) => return (ending, here),
                     None => {}
                 }
+                if here.function != function {
+                    break;
+                }
+                op = &ops[here.at];
             }
         }
     }
