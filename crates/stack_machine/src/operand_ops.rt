@@ -6,8 +6,9 @@ ghost use Rattle.stack_ops.specs.declared.operation.Op.TheVariants as op;
 ghost use Rattle.stack_machine.specs.Store.{taken};
 ghost use Rattle.stack_machine.specs.Points.{Acts, Stays};
 
+use crate::quick::converted;
 use crate::run::Run;
-use int_ops::{IntType, convert};
+use int_ops::IntType;
 use stack_ops::Outcome;
 
 impl Run {
@@ -95,7 +96,7 @@ impl Run {
         ensures stays { Stays self.old self.new }
     {
         let a = self.store.pop();
-        self.store.push(convert(t, a));
+        self.store.push(converted(t, a));
         self.at += 1;
         None
     }

@@ -7,7 +7,7 @@ ghost use Rattle.stack_ops.specs.Effect as spec;
 ghost use Rattle.code_runs.specs.CodeRun.{stepped, state_of};
 ghost use Rattle.stack_machine.specs.Points.{Ghosts, point, told, Stays};
 
-use crate::quick::quick_of;
+use crate::quick::{quick_of, quick_one};
 use crate::run::Run;
 use int_ops::{ArithTrap, BinOp, IntType, UnOp, binary, unary};
 use stack_ops::{Outcome, Trap};
@@ -62,6 +62,11 @@ impl Run {
         ensures stays { Stays self.old self.new }
     {
         let a = self.store.pop();
+        if let Some(n) = quick_one(op, t, a) {
+            self.store.push(i128::from(n));
+            self.at += 1;
+            return None;
+        }
         match unary(op, t, a) {
             Ok(n) => {
                 self.store.push(n);

@@ -1,11 +1,13 @@
-//! Operators on two numbers of int, where the answer is told at once.
+//! Operators and conversions on numbers of int, where the answer is told at once.
 
 ghost use Rattle.std.specs.Prelude.{◌≡◌, IfSome, Ok};
-ghost use Rattle.int_ops.specs.Apply.{applied, binary};
+ghost use Rattle.int_ops.specs.Apply.{applied, binary, unary};
+ghost use Rattle.int_ops.specs.Conversion.{convert};
+ghost use Rattle.int_ops.specs.Ranges.{IsNumber};
 ghost use Rattle.int_ops.specs.declared.types.IntType.TheVariants as type;
 ghost use Rattle.stack_machine.specs.Ints.{IsInt};
 
-use int_ops::{BinOp, IntType};
+use int_ops::{BinOp, IntType, UnOp};
 
 /// What an operator gives at a type, where the type is int, the operands and the answer are numbers
 /// of int, and the operator is none of the seldom ones.
@@ -76,4 +78,47 @@ fn quick_bits(op: BinOp, a: i32, b: i32) -> Option<i64>
         BinOp::Or => fitting(i64::from(left | right)),
         _ => None,
     }
+}
+
+/// The same of an operator with one operand.
+#[inline(always)]
+pub(crate) fn quick_one(op: UnOp, t: IntType, a: i128) -> Option<i64>
+    ensures { IfSome result (λ n. IsInt n × (unary op t a ≡ Ok n)) }
+{
+    let UnOp::Minus = op else {
+        return None;
+    };
+    let IntType::Int = t else {
+        return None;
+    };
+    let Ok(operand) = i32::try_from(a) else {
+        return None;
+    };
+    fitting(-i64::from(operand))
+}
+
+/// What a number becomes in a type.
+#[inline(always)]
+pub(crate) fn converted(t: IntType, a: i128) -> i128
+    ensures value { result ≡ convert t a }
+    ensures number { IsNumber result }
+{
+    if let IntType::Bool = t {
+        return if a == 0 { 0 } else { 1 };
+    }
+    match quick_int(t, a) {
+        Some(n) => i128::from(n),
+        None => int_ops::convert(t, a),
+    }
+}
+
+/// The number that is one of int, where the type is int.
+#[inline(always)]
+fn quick_int(t: IntType, a: i128) -> Option<i32>
+    ensures { IfSome result (λ n. n ≡ convert t a) }
+{
+    let IntType::Int = t else {
+        return None;
+    };
+    i32::try_from(a).ok()
 }

@@ -212,4 +212,3 @@ loop-ending-2-preserved g c =
     c.as_slice-ops.ensures.value ∙ ap (λ (v : FunctionValue). v.ops) c.f.view_is in
     let less = on.lighter in let le = c.loop-ending-2.invariant.3 in
     (on.under, same, op-read code known (g.S.Streams.left c.step.new.io) (g.S.Streams.written c.step.new.io) c.step.new.self _ on.under c.index-f.result.now on-is c.as_slice-ops.result.now (op.Push (pos 0)) ops, omega (arith, less, le))
-
