@@ -15,13 +15,13 @@ fn cell_of(base: u32, size: u32, index: i128) -> Option<usize>
     ensures cell { result ≡ element base size index }
     ensures within { IfSome result (λ w. w < base + size) }
 {
-    if index < 0 {
+    let Ok(element) = u32::try_from(index) else {
+        return None;
+    };
+    if element >= size {
         return None;
     }
-    if index >= size as i128 {
-        return None;
-    }
-    Some(base as usize + index as usize)
+    Some(base as usize + element as usize)
 }
 
 impl Run {
