@@ -1,16 +1,22 @@
 //! The exit statuses of all answers, and their lines.
 
+use clap::error::ErrorKind;
 use code_file::CodeFault;
 use cov_outside::MemSink;
-use cov_program::{End, status_of, tell};
+use cov_program::{End, SourceFault, status_of, tell};
+use cov_words::UsageFault;
 use gcov_records::FileFault;
 use stack_ops::Trap;
+use std::alloc::Global;
 use std::process::Abort;
 use std::str;
 use std::test::Fail;
 
 /// Answers, each with its status and its line.
 type Told<'a> = (End, u8, &'a str);
+
+const USAGE: &str =
+    "cov: usage: cover SRC IN.. | build SRC | run NAME | report NAME | merge A B OUT | make N\n";
 
 /// Asserts statuses and lines.
 fn assert_told(rt: &(impl AllocGlobal + Abort), rows: &[Told<'_>]) -> Result<(), Fail> {
@@ -70,6 +76,40 @@ fn endings_of_runs_have_their_statuses(rt: HostRuntime) -> Result<(), Fail> {
                 "cov: out of turns after 1099511627776\n",
             ),
             (End::NoMemory, 123, "cov: no memory\n"),
+        ],
+    )
+}
+
+#[test]
+fn words_and_sources_that_are_refused_have_lines(rt: HostRuntime) -> Result<(), Fail> {
+    let refused = source_graphs::SourceFault::Lex(c_tokens::LexFault::OpenComment(7));
+    assert_told(
+        &rt,
+        &[
+            (End::Usage(UsageFault::NoCommand), 120, USAGE),
+            (End::Usage(UsageFault::UnknownCommand), 120, USAGE),
+            (
+                End::Usage(UsageFault::Words(ErrorKind::InvalidValue)),
+                120,
+                USAGE,
+            ),
+            (End::Usage(UsageFault::BadNumber), 120, USAGE),
+            (End::Usage(UsageFault::BadName), 120, USAGE),
+            (
+                End::ConditionCoverage,
+                120,
+                "cov: condition coverage is left out\n",
+            ),
+            (
+                End::SourceRefused(SourceFault::NotAccepted(refused)),
+                120,
+                "cov: source: open comment at byte 7\n",
+            ),
+            (
+                End::SourceRefused(SourceFault::TablesTooLarge(1_048_577)),
+                120,
+                "cov: source: tables too large 1048577\n",
+            ),
         ],
     )
 }
@@ -142,4 +182,26 @@ fn counts_that_do_not_fit_have_lines(rt: HostRuntime) -> Result<(), Fail> {
             ),
         ],
     )
+}
+
+/// What is told of an answer where this call of the error output fails.
+fn told(alloc: Global, end: &End, fails: u64) -> Result<(bool, String), Fail> {
+    let mut err = MemSink::new(alloc, [fails].to_vec(alloc)?);
+    let whole = tell(end, &mut err).is_ok();
+    Ok((
+        whole,
+        String::from_str(alloc, str::from_utf8(err.bytes())?)?,
+    ))
+}
+
+#[test]
+fn a_line_is_cut_where_the_error_output_fails(rt: HostRuntime) -> Result<(), Fail> {
+    let line = "cov: trapped bad index at line 12\n";
+    for fails in 0..9 {
+        let (whole, text) = told(rt.alloc(), &End::Trapped(Trap::BadIndex, 12), fails)?;
+        assert!(rt; line.starts_with(text.as_str()), "{text:?}");
+        assert_eq!(rt; whole, text.as_str() == line, "at call {fails}");
+        assert!(rt; fails > 0 || text.is_empty(), "at call {fails}");
+    }
+    Ok(())
 }

@@ -1,103 +1,185 @@
 //! What `build` leaves, with counting and without.
 
-use super::sources::LOOP;
-use super::{
-    Answer, DONE, FOLDER_FAULT, assert_absent, assert_files, assert_left, assert_steps, call,
-    file_in, folder_of,
-};
+use super::assert_played;
+use super::pieces::{INPUTS, LOOP};
 use std::test::Fail;
 
 /// The notes of the loop in P.c.
-const LOOP_NOTES: &[u8] = b"oncgr01P\xa3\xab\x98\xfa\x10'\0\0\x01\0\0\0\
-\0\0\0\x01\x15\0\0\0\0\0\0\0 \x15%.\x05\0\0\0main\0\x01\0\0\0\
-\0\0A\x01\x04\0\0\0\x06\0\0\0\
-\0\0C\x01\x0c\0\0\0\0\0\0\0\x02\0\0\0\x05\0\0\0\
-\0\0C\x01\x0c\0\0\0\x02\0\0\0\x03\0\0\0\x04\0\0\0\
-\0\0C\x01\x14\0\0\0\x03\0\0\0\x04\0\0\0\x05\0\0\0\x05\0\0\0\x01\0\0\0\
-\0\0C\x01\x0c\0\0\0\x04\0\0\0\x03\0\0\0\0\0\0\0\
-\0\0C\x01\x0c\0\0\0\x05\0\0\0\x01\0\0\0\x01\0\0\0\
-\0\0E\x01\x0c\0\0\0\x02\0\0\0\x01\0\0\0\x02\0\0\0\
-\0\0E\x01\x08\0\0\0\x03\0\0\0\x03\0\0\0\
-\0\0E\x01\x08\0\0\0\x04\0\0\0\x04\0\0\0\
-\0\0E\x01\x08\0\0\0\x05\0\0\0\x05\0\0\0";
-
-/// What stood under names of files before.
-const OLD: &[u8] = b"old";
-
-/// The first bytes of the loop's code file that counts, with its stamp, and of one that doesn't, with
-/// the stamp for no paths.
-const COVERED_CODE: &[u8] = b"docpr02P\xa3\xab\x98\xfa\x01\0\0\0";
+const NOTES: &str = "
+hex P.gcno
+6f 6e 63 67 72 30 31 50 a3 ab 98 fa 10 27 00 00
+01 00 00 00 00 00 00 01 15 00 00 00 00 00 00 00
+20 15 25 2e 05 00 00 00 6d 61 69 6e 00 01 00 00
+00 00 00 41 01 04 00 00 00 06 00 00 00 00 00 43
+01 0c 00 00 00 00 00 00 00 02 00 00 00 05 00 00
+00 00 00 43 01 0c 00 00 00 02 00 00 00 03 00 00
+00 04 00 00 00 00 00 43 01 14 00 00 00 03 00 00
+00 04 00 00 00 05 00 00 00 05 00 00 00 01 00 00
+00 00 00 43 01 0c 00 00 00 04 00 00 00 03 00 00
+00 00 00 00 00 00 00 43 01 0c 00 00 00 05 00 00
+00 01 00 00 00 01 00 00 00 00 00 45 01 0c 00 00
+00 02 00 00 00 01 00 00 00 02 00 00 00 00 00 45
+01 08 00 00 00 03 00 00 00 03 00 00 00 00 00 45
+01 08 00 00 00 04 00 00 00 04 00 00 00 00 00 45
+01 08 00 00 00 05 00 00 00 05 00 00 00
+end
+";
 
 #[test]
 fn a_build_replaces_notes_and_code(rt: HostRuntime) -> Result<(), Fail> {
-    let alloc = rt.alloc();
-    let files: [(&str, &[u8]); 4] = [
-        ("P.c", LOOP.as_bytes()),
-        ("P.gcda", OLD),
-        ("P.code", OLD),
-        ("Q.code", OLD),
-    ];
-    let mut folder = folder_of(alloc, &files, &[])?;
-    assert_steps(&rt, &mut folder, &[("build P.c", b"", DONE, "")])?;
-    let stay: [(&str, &[u8]); 4] = [
-        ("P.c", LOOP.as_bytes()),
-        ("P.gcda", OLD),
-        ("P.gcno", LOOP_NOTES),
-        ("Q.code", OLD),
-    ];
-    assert_files(&rt, "a build", &folder, &stay);
-    assert_absent(&rt, &folder, &["P.c.code", "P.c.gcno", "Q.gcno"]);
-    let code = file_in(alloc, &folder, "P.code")?;
-    assert!(rt; code.starts_with(COVERED_CODE), "{code:?}");
-    assert_steps(&rt, &mut folder, &[("build P.c", b"", DONE, "")])?;
-    assert_files(&rt, "a second build", &folder, &[("P.code", &code)]);
-    Ok(())
+    assert_played(
+        &rt,
+        &[
+            INPUTS,
+            LOOP,
+            NOTES,
+            "
+# How the code begins, with the stamp of the loop.
+hex covered
+64 6f 63 70 72 30 32 50 a3 ab 98 fa 01 00 00 00
+end
+folder P.c P.gcda=old P.code=old Q.code=old
+$ build P.c
+= 0 Done
+same P.c P.gcno
+same P.gcda as old
+same Q.code as old
+absent P.c.code P.c.gcno Q.gcno
+begins P.code as covered
+keep P.code
+$ build P.c
+= 0 Done
+same P.code
+",
+        ],
+    )
+}
+
+#[test]
+fn a_plain_build_replaces_the_code_alone(rt: HostRuntime) -> Result<(), Fail> {
+    assert_played(
+        &rt,
+        &[
+            INPUTS,
+            LOOP,
+            "
+# How the code begins, with the stamp for no paths.
+hex plain
+64 6f 63 70 72 30 32 50 ce c1 0a 23 00 00 00 00
+end
+folder P.c P.code=old
+$ build --plain P.c
+= 0 Done
+same P.c
+absent P.gcno P.gcda P.c.code
+begins P.code as plain
+",
+        ],
+    )
 }
 
 #[test]
 fn files_are_named_as_their_source(rt: HostRuntime) -> Result<(), Fail> {
-    let alloc = rt.alloc();
-    // The source's name, and those of the code and the notes.
-    let rows = [
-        ("a.c", "a.code", "a.gcno"),
-        ("a.b.c", "a.b.code", "a.b.gcno"),
-        (".c.c", ".c.code", ".c.gcno"),
-        ("in/deep.c", "in/deep.code", "in/deep.gcno"),
-    ];
-    for (source, code, notes) in rows {
-        let mut folder = folder_of(alloc, &[(source, LOOP.as_bytes())], &[])?;
-        let words = format!(in alloc; "build {source}")?;
-        let left = call(alloc, words.as_str(), b"", &mut folder)?;
-        assert_left(&rt, source, &left, DONE, "");
-        assert!(rt; folder.get(code).is_some(), "of {code}");
-        assert_files(&rt, source, &folder, &[(notes, LOOP_NOTES)]);
-    }
-    Ok(())
+    assert_played(
+        &rt,
+        &[
+            LOOP,
+            NOTES,
+            "
+
+folder a.c=P.c
+$ build a.c
+= 0 Done
+there a.code
+same a.gcno as P.gcno
+
+folder a.b.c=P.c
+$ build a.b.c
+= 0 Done
+there a.b.code
+same a.b.gcno as P.gcno
+
+folder .c.c=P.c
+$ build .c.c
+= 0 Done
+there .c.code
+same .c.gcno as P.gcno
+
+folder in/deep.c=P.c
+$ build in/deep.c
+= 0 Done
+there in/deep.code
+same in/deep.gcno as P.gcno
+",
+        ],
+    )
 }
 
 #[test]
 fn a_failed_call_of_the_folder_leaves_what_was_not_replaced(rt: HostRuntime) -> Result<(), Fail> {
-    let alloc = rt.alloc();
-    let text = LOOP.as_bytes();
-    // The words, the call of the folder that fails, the answer, and whether the notes are new.
-    let rows: [(&str, u64, Answer<'_>, bool); 7] = [
-        ("build P.c", 0, FOLDER_FAULT, false),
-        ("build P.c", 1, FOLDER_FAULT, false),
-        ("build P.c", 2, FOLDER_FAULT, true),
-        ("build P.c", 3, DONE, true),
-        ("build --plain P.c", 0, FOLDER_FAULT, false),
-        ("build --plain P.c", 1, FOLDER_FAULT, false),
-        ("build --plain P.c", 2, DONE, false),
-    ];
-    for (words, fails, answer, noted) in rows {
-        let files: [(&str, &[u8]); 3] = [("P.c", text), ("P.gcno", OLD), ("P.code", OLD)];
-        let mut folder = folder_of(alloc, &files, &[fails])?;
-        let left = call(alloc, words, b"", &mut folder)?;
-        assert_left(&rt, words, &left, answer, "");
-        let notes = if noted { LOOP_NOTES } else { OLD };
-        assert_files(&rt, words, &folder, &[("P.gcno", notes)]);
-        let stays = folder.get("P.code") == Some(OLD);
-        assert_eq!(rt; stays, answer != DONE, "at call {fails} of {words}");
-    }
-    Ok(())
+    assert_played(
+        &rt,
+        &[
+            INPUTS,
+            LOOP,
+            NOTES,
+            "
+# Only the notes and code that were replaced before the failed call are new.
+
+fail folder 0
+folder P.c P.gcno=old P.code=old
+$ build P.c
+! cov: folder fault
+= 120 FolderFault
+same P.gcno as old
+same P.code as old
+
+fail folder 1
+folder P.c P.gcno=old P.code=old
+$ build P.c
+! cov: folder fault
+= 120 FolderFault
+same P.gcno as old
+same P.code as old
+
+fail folder 2
+folder P.c P.gcno=old P.code=old
+$ build P.c
+! cov: folder fault
+= 120 FolderFault
+same P.gcno
+same P.code as old
+
+fail folder 3
+folder P.c P.gcno=old P.code=old
+$ build P.c
+= 0 Done
+same P.gcno
+changed P.code as old
+
+fail folder 0
+folder P.c P.gcno=old P.code=old
+$ build --plain P.c
+! cov: folder fault
+= 120 FolderFault
+same P.gcno as old
+same P.code as old
+
+fail folder 1
+folder P.c P.gcno=old P.code=old
+$ build --plain P.c
+! cov: folder fault
+= 120 FolderFault
+same P.gcno as old
+same P.code as old
+
+fail folder 2
+folder P.c P.gcno=old P.code=old
+$ build --plain P.c
+= 0 Done
+same P.gcno as old
+changed P.code as old
+",
+        ],
+    )
 }
