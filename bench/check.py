@@ -6,14 +6,18 @@ Usage: bench/check.py [FOLDER]   (default: a new temporary folder; with a FOLDER
 Makes a scratch repository of c_types, what it stands on and the parser, and a program that scans, parses and checks its standard input
 and prints how many functions the source has, or the fault, and builds it with `rt run`, which proves it too. Each figure is the best of
 nine runs, less the time of a run on the least source; the memory is that of one run. A source of 1,048,576 bytes has no room for a
-switch of 100,000 cases; here are as many as fit. The last line says whether the bounds hold: 1,000,000 bytes of statements take below
+switch of 100,000 cases; here are as many as fit. Two texts have 60,000 names of 8 letters: some names, and names that a hostile writer
+chose so that the table keeps them all in one place (by bench/hostile_names.c, which gcc builds). The last line says whether the bounds hold: 1,000,000 bytes of statements take below
 1.5 times what gcc takes in the same run and below 150 MB, and at most 2.67 times as long as half of them.
 """
+import itertools
 import os
+import shutil
+import subprocess
 import sys
 import tempfile
 
-from scratch import TREE_RT, best, gcc_syntax, memory, program_in, statements
+from scratch import TOP, TREE_RT, best, gcc_syntax, memory, program_in, statements
 
 CRATES = ("cov_base", "int_ops", "c_tokens", "c_tree", "c_grammar", "c_syntax", "c_exprs", "c_parser", "c_typing", "c_values", "c_types")
 USES = " ".join(CRATES) + " sqlite_items indexmap"
@@ -43,7 +47,24 @@ def inside(text):
     return f"int main(void) {{ {text} }}"
 
 
-def texts():
+KEYWORDS = {"continue", "register", "unsigned", "volatile", "restrict"}
+
+
+def some_names(count):
+    """Names of eight letters, in order."""
+    names = ("".join(chr(ord("a") + k // 26**j % 26) for j in range(7, -1, -1)) for k in itertools.count())
+    return list(itertools.islice((name for name in names if name not in KEYWORDS), count))
+
+
+def hostile_names(folder, count):
+    """Names whose hashes agree in all bits that choose their places in the table."""
+    program = os.path.join(folder, "hostile_names")
+    subprocess.run(["gcc", "-O2", "-o", program, os.path.join(TOP, "bench", "hostile_names.c")], check=True)
+    wrote = subprocess.run([program, str(count), "13"], capture_output=True, check=True).stdout.decode()
+    return [name for name in wrote.split() if name not in KEYWORDS]
+
+
+def texts(folder):
     functions = "".join(f"int f{k}(int n){{return n+{k};}}" for k in range(20_000))
     globals_ = "".join(f"int g{k}={k};" for k in range(20_000))
     nested = inside("int x; " + "{int y;" * 250 + "x;" * 50_000 + "}" * 250)
@@ -61,7 +82,8 @@ def texts():
         ("100,000 operators", "int x = " + "1+" * 100_000 + "1;" + LEAST),
         ("45,000 arrays", arrays + LEAST),
         ("last name unknown", inside("int x; " + "x=x+1;" * 150_000 + "y;")),
-    ]
+        ("60,000 names", "int " + ",".join(some_names(60_000)) + ";" + LEAST),
+    ] + ([("names in one place", "int " + ",".join(hostile_names(folder, 60_000)) + ";" + LEAST)] if shutil.which("gcc") else [])
 
 
 def main():
@@ -71,7 +93,7 @@ def main():
         folder = os.path.abspath(keep or made)
         program = [program_in(folder, "check_bench", CRATES, USES, {"src/main.rt": MAIN_RT}, LEAST.encode())]
         least, _ = best(program, LEAST, RUNS)
-        for name, text in texts():
+        for name, text in texts(folder):
             taken, wrote = best(program, text, RUNS)
             seconds[name], used[name] = taken - least, memory(program, text)
             gcc[name] = gcc_syntax(text, RUNS if name == "statements" else 2)
