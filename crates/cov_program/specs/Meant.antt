@@ -1,6 +1,6 @@
 -- What the commands come to for the C source, whatever code and counters they go by. All is said where the files are told,
 -- and of `run` where standard input and the output are told too.
-use Rattle.std.specs.Prelude.{◌≡◌, ℕ, List, ◌++◌, Option, Some, IfSome}
+use Rattle.std.specs.Prelude.{◌≡◌, ◌⊎◌, ℕ, List, ◌++◌, Option, Some, IfSome}
 use Rattle.cov_outside.specs.Outside.{Files}
 use Rattle.c_tree.specs.Typed.{Typed}
 use Rattle.source_graphs.specs.SourceGraphs.{IsSourceOf}
@@ -12,10 +12,10 @@ use Rattle.cov_answers.specs.declared.answers.End.{End}
 use Rattle.cov_answers.specs.declared.answers.End.TheVariants as answer
 use Rattle.command_steps.specs.Names.{data_name}
 use Rattle.command_steps.specs.Puts.{put, told}
-use Rattle.file_commands.specs.Laws.{HasCounts, HasData, HasNotes, HasSource}
+use Rattle.file_commands.specs.Laws.{HasCounts, HasData, HasNotes, HasSource, IsOutside}
 use Rattle.run_command.specs.Laws as run
-use Rattle.headline.specs.CoverText.{IsCoverText, IsReady, MayEnd, with_turns}
-use Rattle.headline.specs.Laws.{FoundFor, IsFileFor, IsReportOf, IsRunKept, IsRunOpen}
+use Rattle.headline.specs.CoverText.{IsCoverText, IsReady, MayEnd, MayStop, with_turns}
+use Rattle.headline.specs.Laws.{FoundFor, IsFileFor, IsReportOf, IsRunKept, IsRunOpen, MayEndRun}
 use Rattle.headline.specs.SourceRuns.{Asked, StandFor, notes_for}
 use Rattle.cov_program.specs.Outside.{Outside}
 
@@ -45,12 +45,14 @@ RunsAsMeant files one name before after files_after end =
     → run.IsReady files one.input name code
     → RunsSo limit text renders.source files one name before after files_after end
 
--- The output gained the report on just the runs that a program's data stand for, where its notes are those of its source.
+-- The output gained the report on just the runs that a program's data stand for, where its notes are those of its source;
+-- and on none where it has no data.
 abbrev pub GainsReport : Files → List ℕ → Option (List ℕ) → Option (List ℕ) → Type 0
 GainsReport files name before after =
-    (limit : ℕ) (text : List ℕ) (source : Typed) (counts : DataValue) (asked : List Asked) → IsSourceOf text source
-    → HasNotes files name (notes_for limit text source) → HasSource files name (notes_for limit text source) text
-    → HasData files name counts → StandFor limit text source asked counts
+    (limit : ℕ) (text : List ℕ) (source : Typed) (found : Option DataValue) (asked : List Asked)
+    → IsSourceOf text source → HasNotes files name (notes_for limit text source)
+    → HasSource files name (notes_for limit text source) text → HasCounts files name found
+    → FoundFor limit text source asked found
     → (report : List ℕ) × IsReportOf limit name text source asked report × (after ≡ told report before)
 
 -- The merged data stand for all runs that both programs' data stand for.
@@ -77,9 +79,38 @@ IsMeant (Reads (Merge a b merged)) before after answer.Done =
     IfSome before.files (λ files. MergesRuns files a b merged after.files)
 IsMeant reading before after end = Unit {0}
 
+-- `run` ends as the source means, or because of the outside, memory, or too great a number.
+abbrev pub EndsAsMeant : Files → Asked → List ℕ → End → Type 0
+EndsAsMeant files one name end =
+    (limit : ℕ) (text : List ℕ) (code : CodeValue) (renders : RendersCovered text limit code)
+    (found : Option DataValue) (asked : List Asked) → run.IsReady files one.input name code
+    → HasCounts files name found → FoundFor limit text renders.source asked found → MayEndRun renders.source one end
+
+-- A report is done, or the output, the folder or memory keeps it from that.
+abbrev pub IsReported : Files → List ℕ → End → Type 0
+IsReported files name end =
+    (limit : ℕ) (text : List ℕ) (source : Typed) (found : Option DataValue) (asked : List Asked)
+    → IsSourceOf text source → HasNotes files name (notes_for limit text source)
+    → HasSource files name (notes_for limit text source) text → HasCounts files name found
+    → FoundFor limit text source asked found
+    → (end ≡ answer.Done) ⊎ ((end ≡ answer.WriteFault) ⊎ IsOutside end)
+
+-- Data are merged, or the folder, memory, or too great a number keeps them from that.
+abbrev pub IsMerged : Files → List ℕ → List ℕ → End → Type 0
+IsMerged files a b end =
+    (limit : ℕ) (text : List ℕ) (source : Typed) (first second : DataValue) (asked others : List Asked)
+    → HasData files a first → HasData files b second → StandFor limit text source asked first
+    → StandFor limit text source others second → (end ≡ answer.Done) ⊎ MayStop end
+
 -- Where the files are told, the source is accepted and all is there, a cover is done, or the outside, memory, or too
--- great a number keeps it from that.
+-- great a number keeps it from that. So it is of `run`, `report` and `merge` on the files of a program, where standard
+-- input and the output of `run` are told too.
 abbrev pub IsComplete : Reading → Outside → End → Type 0
 IsComplete (Reads (Cover turns limit source inputs)) before end =
     IfSome before.files (λ files. IsReady files limit source inputs → MayEnd end)
+IsComplete (Reads (Run turns name)) before end =
+    IfSome before.files (λ files. IfSome before.input (λ input. IfSome before.output (λ output.
+    EndsAsMeant files (with_turns turns input) name end)))
+IsComplete (Reads (Report name)) before end = IfSome before.files (λ files. IsReported files name end)
+IsComplete (Reads (Merge a b merged)) before end = IfSome before.files (λ files. IsMerged files a b end)
 IsComplete reading before end = Unit {0}

@@ -48,7 +48,7 @@ read_there bytes counts (answer.BadData fault) reads h =
 read_there bytes counts answer.NoMemory reads h = inr refl
 read_there bytes counts _ reads h = absurd h
 
-data_there : (files : Files) (name : List ℕ) (counts : DataValue) (end : End) → HasData files name counts
+pub data_there : (files : Files) (name : List ℕ) (counts : DataValue) (end : End) → HasData files name counts
     → DataAt (Some files) name (Err end) → IsOutside end
 data_there files name counts end has (inl h) =
     loads_there files (data_name name) file_limit has.bytes end has.there has.fits h
@@ -144,7 +144,7 @@ found_load : (files : Files) (name : List ℕ) (end : End) → FindsData (Some f
 found_load files name (answer.Missing missing) h = absurd h
 found_load files name _ h = h
 
-find_there : (files : Files) (name : List ℕ) (counts : Option DataValue) (end : End) → HasCounts files name counts
+pub find_there : (files : Files) (name : List ℕ) (counts : Option DataValue) (end : End) → HasCounts files name counts
     → FindsData (Some files) name (Err end) → IsOutside end
 find_there files name None end has h = none_there files name end has h
 find_there files name (Some counts) end has h = data_there files name counts end has (found_load files name end h)

@@ -35,7 +35,7 @@ use Rattle.headline.specs.Laws.{RunsAreMeant}
 -- ---- functions of a code with their graphs
 
 -- the functions are those of these graphs, in order, and none is lacking
-abbrev AreCovered : ℕ → List Graph → List FunctionValue → Type 0
+abbrev pub AreCovered : ℕ → List Graph → List FunctionValue → Type 0
 AreCovered limit [] [] = Unit {0}
 AreCovered limit (g ∷ gs) (f ∷ fs) = IsCoveredFunction limit g f × AreCovered limit gs fs
 AreCovered limit _ _ = ⊥
@@ -90,10 +90,10 @@ closed_so (outcome.Trapped why line) e = absurd (cc)
 closed_so outcome.OutOfTurns e = absurd (cc)
 
 module _ (limit : ℕ) (text : List ℕ) (code : CodeValue) (renders : RendersCovered text limit code) where
-  abbrev graphs : List Graph
+  abbrev pub graphs : List Graph
   graphs = (pruned (unit_of renders.source)).graphs
 
-  covered : AreCovered limit graphs code.functions
+  pub covered : AreCovered limit graphs code.functions
   covered = are_covered limit graphs code.functions renders.parts.count renders.parts.functions
 
   counted_data : (walks : List Walk) (t : Tally)
@@ -140,18 +140,20 @@ none_passed k (arc ∷ arcs) zero e = absurd (omega (arith, e))
 none_passed k (arc ∷ arcs) (suc n) e =
     ap (λ (l : List ℕ). 0 ∷ l) (none_passed k arcs n (omega (arith, e)))
 
+-- words of which no bit is set
+pub no_words : (paths : List (List ℕ)) (from n : ℕ)
+    → replicate n 0 ≡ map (λ i. word_of (λ p. false) (chunk paths i)) (numbers from n)
+no_words paths from zero = refl
+no_words paths from (suc n) =
+    ap₂ (λ (x : ℕ) (l : List ℕ). x ∷ l) (sym (word_none (λ p. false) (chunk paths from) (λ p m. refl)))
+    (no_words paths (suc from) n)
+
 no_bits : (limit : ℕ) (primes : List (List ℕ))
     → replicate (words_in (count_within limit (length primes))) 0 ≡ bits_within limit primes []
 no_bits limit primes = by (nat_le (length primes) limit)
   where
-    zeros : (from n : ℕ) → replicate n 0 ≡ map (λ i. word_of (λ p. false) (chunk primes i)) (numbers from n)
-    zeros from zero = refl
-    zeros from (suc n) =
-        ap₂ (λ (x : ℕ) (l : List ℕ). x ∷ l) (sym (word_none (λ p. false) (chunk primes from) (λ p m. refl)))
-        (zeros (suc from) n)
-
     by : (z : Bool) → replicate (words_in (cond z (length primes) 0)) 0 ≡ cond z (bits_of primes []) []
-    by true = zeros 0 (width primes)
+    by true = no_words primes 0 (width primes)
     by false = refl
 
 functions_unrun : (limit k : ℕ) (gs : List Graph) (fs : List FunctionValue) → AreCovered limit gs fs

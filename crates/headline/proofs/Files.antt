@@ -14,8 +14,8 @@ use Rattle.gcno_format.specs.Notes.{FunctionNotesValue, NotesValue}
 use Rattle.gcno_format.specs.Reading.{laid_out}
 use Rattle.run_merge.specs.Merging.{added}
 use Rattle.path_report.specs.Report.{report_text}
-use Rattle.path_report.specs.Tallies.{Tallies}
 use Rattle.path_report.specs.Tally.{TallyValue}
+use Rattle.source_graphs.specs.SourceGraphs.{IsSourceOf}
 use Rattle.covered_code.specs.RendersCovered.{RendersCovered}
 use Rattle.run_counts.specs.Counts.{counts_of, no_counts}
 use Rattle.run_counts.specs.Texts.{is_closed}
@@ -27,8 +27,9 @@ use Rattle.file_commands.specs.Report.{SourceAt}
 use Rattle.file_commands.specs.Tallied.{IsTallied}
 use Rattle.run_command.specs.Ran.{start_of}
 use Rattle.headline.specs.Laws.{FoundFor, IsRunOf, MergesAddUp, ReportsAreMeant, RunsAddUp}
-use Rattle.headline.specs.SourceRuns.{Asked, AreWalked, StandFor, closed_runs, closed_walks, notes_for}
+use Rattle.headline.specs.SourceRuns.{Asked, AreWalked, StandFor, TellsOf, closed_runs, closed_walks, notes_for}
 use Rattle.headline.proofs.CountedRuns.{no_run, runs_meant}
+use Rattle.headline.proofs.NoRun.{no_run_told}
 use Rattle.headline.proofs.RunTexts.{told_so}
 use Rattle.headline.proofs.SourceWalks.{all_go}
 
@@ -70,7 +71,7 @@ stand_together limit text source asked others a b h k = record {
 -- ---- `run`
 
 -- what was found, or nothing, stands for the runs before
-start_stands : (limit : ℕ) (text : List ℕ) (code : CodeValue) (renders : RendersCovered text limit code)
+pub start_stands : (limit : ℕ) (text : List ℕ) (code : CodeValue) (renders : RendersCovered text limit code)
     (found : Option DataValue) (before : List Asked) → FoundFor limit text renders.source before found
     → StandFor limit text renders.source before (start_of code found)
 start_stands limit text code renders None before e =
@@ -79,7 +80,7 @@ start_stands limit text code renders None before e =
 start_stands limit text code renders (Some counts) before h = h
 
 -- one run that returned or exited
-run_stands : (limit : ℕ) (text : List ℕ) (code : CodeValue) (renders : RendersCovered text limit code)
+pub run_stands : (limit : ℕ) (text : List ℕ) (code : CodeValue) (renders : RendersCovered text limit code)
     (asked : Asked) (ran : Ran) → IsRunOf limit text renders.source code asked ran → is_closed ran.ending ≡ true
     → StandFor limit text renders.source (asked ∷ []) (counts_of code ran.tally)
 run_stands limit text code renders asked ran run closed =
@@ -128,34 +129,41 @@ merges_add_up limit text source files a b first second asked others bytes one ot
 
 -- ---- `report`
 
-nets_at : (fs : List FunctionNotesValue) → read_notes.HaveNets fs → (i : ℕ) (f : FunctionNotesValue)
+pub nets_at : (fs : List FunctionNotesValue) → read_notes.HaveNets fs → (i : ℕ) (f : FunctionNotesValue)
     → slice_get fs i ≡ Some f → IsNet f.net
 nets_at [] h i f at = absurd (none-some f at)
 nets_at (g ∷ fs) h zero f at = subst (λ (x : FunctionNotesValue). IsNet x.net) (same_Some g f at) h.0
 nets_at (g ∷ fs) h (suc i) f at = nets_at fs h.1 i f at
 
+-- the tally of what was found tells of the runs that it stands for
+pub tells_so : (limit : ℕ) (text : List ℕ) (source : Typed) → IsSourceOf text source
+    → read_notes.HaveNets (notes_for limit text source).functions → (found : Option DataValue) (asked : List Asked)
+    (tally : TallyValue) → FoundFor limit text source asked found
+    → IsTallied (notes_for limit text source) found (Ok tally) → TellsOf limit text source asked tally
+tells_so limit text source is nets None asked tally e told =
+    subst (λ (l : List Asked). TellsOf limit text source l tally) (sym e) (no_run_told limit text source tally told)
+tells_so limit text source is nets (Some counts) asked tally stands told = record {
+  walked = stands.walked;
+  are = stands.are;
+  tells = ((tallies_so (notes_for limit text source) (closed_runs stands.walked) (closed_walks stands.walked)
+      (all_go limit text source is.sound (nets_at (notes_for limit text source).functions nets) asked stands.walked
+      stands.are) counts stands.data_are).tally tally).0 told;
+}
+
 pub reports_meant : ReportsAreMeant
-reports_meant limit text source is files name counts asked report noted given has stands h =
+reports_meant limit text source is files name found asked report noted given has stands h =
     let notes : NotesValue = notes_for limit text source in
     let read : h.0 ≡ notes = notes_once files name notes h.0 noted h.1 in
     let same : h.2.0 ≡ text = source_once files name notes text h.2.0 given
     (subst (λ (n : NotesValue). SourceAt (Some files) name n (Ok h.2.0)) read h.2.1) in
-    let found : h.2.2.0 ≡ Some counts = find_once files name (Some counts) h.2.2.0 has h.2.2.1 in
+    let once : h.2.2.0 ≡ found = find_once files name found h.2.2.0 has h.2.2.1 in
     let tally : TallyValue = h.2.2.2.0 in
-    let told : Tallies notes counts (Ok tally) =
-    subst (λ (o : Option DataValue). IsTallied notes o (Ok tally)) found
-    (subst (λ (n : NotesValue). IsTallied n h.2.2.0 (Ok tally)) read h.2.2.2.1) in
-    let go = all_go limit text source is.sound
-    (nets_at notes.functions (read_notes.nets_told (laid_out noted.bytes) notes noted.reads)) asked stands.walked
-    stands.are in
     record {
       tally = tally;
-      tells = record {
-        walked = stands.walked;
-        are = stands.are;
-        tells = ((tallies_so notes (closed_runs stands.walked) (closed_walks stands.walked) go counts
-            stands.data_are).tally tally).0 told;
-      };
+      tells = tells_so limit text source is
+          (read_notes.nets_told (laid_out noted.bytes) notes noted.reads) found asked tally stands
+          (subst (λ (o : Option DataValue). IsTallied notes o (Ok tally)) once
+          (subst (λ (n : NotesValue). IsTallied n h.2.2.0 (Ok tally)) read h.2.2.2.1));
       report_is = h.2.2.2.2
           ∙ ap₂ (λ (t : List ℕ) (n : NotesValue). report_text name t n tally) same read;
     }

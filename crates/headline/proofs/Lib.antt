@@ -3,5 +3,7 @@ pub mod RunTexts
 pub mod SourceWalks
 pub mod Covering
 pub mod Stopping
+pub mod NoRun
 pub mod Files
 pub mod RunFiles
+pub mod Ready

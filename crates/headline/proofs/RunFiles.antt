@@ -72,7 +72,7 @@ steps_end files name code ran end (inr h) = join_ends code ran h.0 end h.2
 
 -- ---- endings
 
-both_true : (a b : Bool) → (a && b) ≡ true → b ≡ true
+pub both_true : (a b : Bool) → (a && b) ≡ true → b ≡ true
 both_true true b h = h
 both_true false b h = absurd (cc)
 

@@ -45,7 +45,7 @@ use Rattle.headline.proofs.Covering.{nets_of}
 use Rattle.headline.proofs.RunTexts.{from_none, one_more, runs_leave}
 use Rattle.headline.proofs.SourceWalks.{all_go}
 
-outside : (end : End) → IsOutside end → MayStop end
+pub outside : (end : End) → IsOutside end → MayStop end
 outside end (inl e) = subst MayStop (sym e) tt
 outside end (inr e) = subst MayStop (sym e) tt
 
@@ -65,7 +65,7 @@ passed_so k (d ∷ ds) (x ∷ es) found e = by (passed_so (k + 1) ds es found) (
     by rest (Some c) h = subst (λ (f : MergeFault). MayStop (answer_of f)) (same_Some (fault.CountPassed k c) found h) tt
 
 -- data of walks in one program aren't refused for another reason
-merged_so : (notes : NotesValue) (m n : ℕ) (walks others : List Walk) (a b : DataValue)
+pub merged_so : (notes : NotesValue) (m n : ℕ) (walks others : List Walk) (a b : DataValue)
     (found : MergeFault) → IsDataOf notes m walks a → IsDataOf notes n others b → merge_fault a b ≡ Some found
     → MayStop (answer_of found)
 merged_so notes m n walks others a b found h k e =

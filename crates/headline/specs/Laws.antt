@@ -1,6 +1,6 @@
 -- What the commands come to for a C source: each run does what the source means, and what is counted, merged and told
 -- is what the walks of the runs that returned or exited passed and contained.
-use Rattle.std.specs.Prelude.{◌≡◌, ℕ, true, List, [], ◌∷◌, ◌++◌, Option, Some, None, Ok, Err}
+use Rattle.std.specs.Prelude.{◌≡◌, ◌⊎◌, ℕ, true, List, [], ◌∷◌, ◌++◌, Option, Some, None, Ok, Err}
 use Rattle.cov_outside.specs.Outside.{Files, put_file}
 use Rattle.c_tree.specs.Typed.{Typed}
 use Rattle.c_meaning.specs.Meaning.{meaning}
@@ -19,11 +19,12 @@ use Rattle.walk_counts.specs.WalkData.{IsDataOf}
 use Rattle.cov_answers.specs.declared.answers.End.{End}
 use Rattle.cov_answers.specs.declared.answers.End.TheVariants as answer
 use Rattle.command_steps.specs.Names.{data_name}
-use Rattle.file_commands.specs.Laws.{HasCounts, HasData, HasNotes, HasSource}
+use Rattle.file_commands.specs.Laws.{HasCounts, HasData, HasNotes, HasSource, IsOutside}
 use Rattle.file_commands.specs.Merge.{MergeSteps}
 use Rattle.file_commands.specs.Report.{ReportSteps}
 use Rattle.cover_command.specs.Cover.{CoverSteps}
 use Rattle.run_command.specs.Laws.{IsReady}
+use Rattle.run_command.specs.Laws as run
 use Rattle.run_command.specs.Ran.{DataSteps, end_of}
 use Rattle.run_command.specs.Run.{Runs}
 use Rattle.headline.specs.SourceRuns.{Asked, IsWalked, StandFor, TellsOf, notes_for}
@@ -132,6 +133,22 @@ OpenRunsAreMeant =
     → Runs (Some files) (Some one.input) one.turns name (Some before) after files_after end
     → IsRunOpen renders.source files one before after files_after end
 
+-- The answer of `run` where all that it reads is there: the ending that the source means, or the outside, memory, too many
+-- runs or too great a count.
+abbrev pub MayEndRun : Typed → Asked → End → Type 0
+MayEndRun source one end =
+    (end ≡ end_of one.turns ((meaning source one.input one.turns).ending)) ⊎ (run.IsOutside end ⊎ MayStop end)
+
+-- So `run` ends, where the program's code that counts renders the source, and its data, if it has any, stand for runs of it.
+abbrev pub ReadyIsRun : Type 0
+ReadyIsRun =
+    (limit : ℕ) (text : List ℕ) (code : CodeValue) (renders : RendersCovered text limit code) (files : Files)
+    (one : Asked) (name : List ℕ) (found : Option DataValue) (asked : List Asked) (before : List ℕ)
+    (after : Option (List ℕ)) (files_after : Option Files) (end : End) → run.IsReady files one.input name code
+    → HasCounts files name found → FoundFor limit text renders.source asked found
+    → Runs (Some files) (Some one.input) one.turns name (Some before) after files_after end
+    → MayEndRun renders.source one end
+
 -- Where the data of two programs stand for runs of one source, those that `merge` makes of them stand for all.
 abbrev pub MergesAddUp : Type 0
 MergesAddUp =
@@ -139,6 +156,14 @@ MergesAddUp =
     (asked others : List Asked) (bytes : List ℕ) → HasData files a first → HasData files b second
     → StandFor limit text source asked first → StandFor limit text source others second
     → MergeSteps (Some files) a b (Ok bytes) → IsFileFor limit text source (asked ++ others) bytes
+
+-- Only the folder, memory, too many runs or too great a count keep `merge` from that.
+abbrev pub ReadyIsMerged : Type 0
+ReadyIsMerged =
+    (limit : ℕ) (text : List ℕ) (source : Typed) (files : Files) (a b : List ℕ) (first second : DataValue)
+    (asked others : List Asked) (end : End) → HasData files a first → HasData files b second
+    → StandFor limit text source asked first → StandFor limit text source others second
+    → MergeSteps (Some files) a b (Err end) → MayStop end
 
 -- ---- reports
 
@@ -149,11 +174,20 @@ pub record IsReportOf (limit : ℕ) (name text : List ℕ) (source : Typed) (ask
     pub tells : TellsOf limit text source asked tally
     pub report_is : report ≡ report_text name text (notes_for limit text source) tally
 
--- Where the notes of a program are those of its source, and its data stand for runs of it, a report is on these runs.
+-- Where the notes of a program are those of its source, and its data stand for runs of it, a report is on these runs; where
+-- it has no data, on none.
 abbrev pub ReportsAreMeant : Type 0
 ReportsAreMeant =
     (limit : ℕ) (text : List ℕ) (source : Typed) → IsSourceOf text source → (files : Files) (name : List ℕ)
-    (counts : DataValue) (asked : List Asked) (report : List ℕ) → HasNotes files name (notes_for limit text source)
-    → HasSource files name (notes_for limit text source) text → HasData files name counts
-    → StandFor limit text source asked counts → ReportSteps (Some files) name (Ok report)
+    (found : Option DataValue) (asked : List Asked) (report : List ℕ) → HasNotes files name (notes_for limit text source)
+    → HasSource files name (notes_for limit text source) text → HasCounts files name found
+    → FoundFor limit text source asked found → ReportSteps (Some files) name (Ok report)
     → IsReportOf limit name text source asked report
+
+-- Only the folder and memory keep `report` from that.
+abbrev pub ReadyIsReported : Type 0
+ReadyIsReported =
+    (limit : ℕ) (text : List ℕ) (source : Typed) → IsSourceOf text source → (files : Files) (name : List ℕ)
+    (found : Option DataValue) (asked : List Asked) (end : End) → HasNotes files name (notes_for limit text source)
+    → HasSource files name (notes_for limit text source) text → HasCounts files name found
+    → FoundFor limit text source asked found → ReportSteps (Some files) name (Err end) → IsOutside end

@@ -19,7 +19,7 @@ use Rattle.function_tallies.specs.Tallies.{ends_below, fits_paths}
 use Rattle.walk_counts.specs.WalkData.{bits_within}
 
 -- no bit of the words is past the paths
-ends : (t : List ℕ → Bool) (ps : List (List ℕ)) → ends_below (length ps) (words_of t ps) ≡ true
+pub ends : (t : List ℕ → Bool) (ps : List (List ℕ)) → ends_below (length ps) (words_of t ps) ≡ true
 ends t ps = elim (cases_lt (length ps / 64) (width ps)) [
   | inl inside ↦ (let at : get_or (words_of t ps) (length ps / 64) 0 ≡ word_of t (chunk ps (length ps / 64)) =
       get_numbers (λ i. word_of t (chunk ps i)) 0 (width ps) (length ps / 64) inside
