@@ -1,0 +1,4 @@
+pub mod Stands
+pub mod Stops
+pub mod Behind
+pub mod Told
