@@ -188,8 +188,10 @@ fn declare(
 
 /// Initialisers converted to the type of a variable's elements.
 fn initialisers(alloc: Global, names: &Scopes, t: IntType, es: &[Expr]) -> Checked<Items<TypedExpr>>
-    ensures { Checks (map typed_expr_view) (flat_map (value_faults names.now.scopes) (map expr_view es.now))
-        (map (λ e. converted (typed names.now.scopes e) (base.Int t)) (map expr_view es.now)) result }
+    ensures { Checks (map typed_expr_view)
+        (flat_map (value_faults names.now.scopes) (map expr_view es.now))
+        (map (λ e. converted (typed names.now.scopes e) (base.Int t)) (map expr_view es.now))
+        result }
 {
     let mut made = Items::new(alloc);
     for e in es {
@@ -218,7 +220,8 @@ fn initialiser(alloc: Global, names: &Scopes, t: IntType, init: &Init) -> Checke
 #[tactic(auto, using(c_values::proofs::CheckLaws::in_left, crate::proofs::DeclLaws::new_name))]
 fn local(alloc: Global, names: &mut Scopes, v: &Var) -> Checked<TypedVar>
     ensures { Goes typed_var_view (spec.var_faults names.old (var_view v.now))
-        (spec.typed_var names.old (var_view v.now)) (spec.declare_var cell.Local names.old (var_view v.now))
+        (spec.typed_var names.old (var_view v.now))
+        (spec.declare_var cell.Local names.old (var_view v.now))
         result names.new }
 {
     let cell = names.next();
@@ -298,7 +301,8 @@ fn given_numbers(alloc: Global, names: &Scopes, v: &Var, numbers: &mut Globals) 
     ensures { Checks {V = ℕ × List ℤ} (λ count. (count, numbers.new))
         (spec.numbers_faults names.now.scopes v.now.place (init_view v.now.init)) (
           length (spec.given_numbers names.now.scopes (type_of v.now.base) (init_view v.now.init)),
-          numbers.old ++ spec.given_numbers names.now.scopes (type_of v.now.base) (init_view v.now.init),
+          numbers.old
+              ++ spec.given_numbers names.now.scopes (type_of v.now.base) (init_view v.now.init),
         ) result }
 {
     let t = number_type(v.base);

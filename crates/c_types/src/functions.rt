@@ -35,7 +35,8 @@ impl<'a> Model for Functions<'a> {
 
 /// One more function is defined, which has this number.
 fn add(alloc: Global, numbers: &mut Numbers, name: &Ident, number: u32) -> Result<(), AllocError>
-    ensures { OnOk result ((names : _) → length names ≡ number → AreNumbers names numbers.old.entries
+    ensures { OnOk result
+        ((names : _) → length names ≡ number → AreNumbers names numbers.old.entries
         → AreNumbers (names ++ name.now ∷ []) numbers.new.entries) }
 {
     if numbers.contains_key(name) {
@@ -54,7 +55,8 @@ fn add_part(
     outer: &Outer,
     count: u32,
 ) -> Result<u32, AllocError>
-    ensures { IfOk result (λ more. (names : _) → length names ≡ count → AreNumbers names numbers.old.entries
+    ensures { IfOk result
+        (λ more. (names : _) → length names ≡ count → AreNumbers names numbers.old.entries
         → AreNumbers (names ++ spec.defined (outer_view outer.now ∷ [])) numbers.new.entries
         × (length (names ++ spec.defined (outer_view outer.now ∷ [])) ≡ more)) }
 {

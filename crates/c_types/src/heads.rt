@@ -35,7 +35,8 @@ pub fn declare_head(
     functions: &Functions<'_>,
     head: &Head,
 ) -> Result<(), AllocError>
-    ensures { OnOk result (names.new ≡ spec.declare_head functions.now names.old (head_view head.now)) }
+    ensures { OnOk result
+        (names.new ≡ spec.declare_head functions.now names.old (head_view head.now)) }
 {
     if names.is_declared(&head.name) {
         return Ok(());
@@ -89,7 +90,8 @@ pub fn is_own(names: &Scopes, name: &Ident, made: usize) -> bool
 
 /// A head agrees with what its name means.
 pub fn agreeing(names: &Scopes, head: &Head) -> Checked<()>
-    ensures { Passes (spec.unless_fine (spec.agrees (meaning names.now.scopes head.now.name) (head_view head.now))
+    ensures { Passes (spec.unless_fine
+        (spec.agrees (meaning names.now.scopes head.now.name) (head_view head.now))
         head.now.place) result }
 {
     if agrees(names, head) {
@@ -100,7 +102,8 @@ pub fn agreeing(names: &Scopes, head: &Head) -> Checked<()>
 
 /// The head of a definition behind so many agrees with what its name means, and is its own.
 pub fn defining(names: &Scopes, head: &Head, made: usize) -> Checked<()>
-    ensures { Passes (spec.unless_fine (spec.agrees (meaning names.now.scopes head.now.name) (head_view head.now)
+    ensures { Passes
+        (spec.unless_fine (spec.agrees (meaning names.now.scopes head.now.name) (head_view head.now)
         && spec.is_own (meaning names.now.scopes head.now.name) made) head.now.place) result }
 {
     if agrees(names, head) && is_own(names, &head.name, made) {

@@ -49,11 +49,13 @@ impl Labels {
 
     /// A case of a number, and whether it is the first of this number.
     pub fn add(&mut self, number: i128) -> Result<bool, AllocError>
-        ensures is_new { IfOk result (λ is_new. is_new ≡ not (spec.is_among number self.old.values)) }
-        ensures added { spec.is_among number self.old.values ≡ false → OnOk result (self.new ≡ record {
-          values = self.old.values ++ number ∷ [];
-          default = self.old.default;
-        }) }
+        ensures is_new { IfOk result
+            (λ is_new. is_new ≡ not (spec.is_among number self.old.values)) }
+        ensures added { spec.is_among number self.old.values ≡ false
+            → OnOk result (self.new ≡ record {
+              values = self.old.values ++ number ∷ [];
+              default = self.old.default;
+            }) }
     {
         Ok(self.values.insert(number)?)
     }

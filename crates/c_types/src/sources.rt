@@ -41,7 +41,8 @@ fn declare_built_in(
 ) -> Result<(), AllocError>
     requires { is_declared names.old.scopes name.now ≡ false }
     ensures { OnOk result (names.new ≡ record {
-      scopes = declare name.now (meant.Function (Some callee) result_base params.now) names.old.scopes;
+      scopes = declare name.now (meant.Function (Some callee) result_base params.now)
+          names.old.scopes;
       next = names.old.next;
     }) }
 {
@@ -69,7 +70,8 @@ fn prototype(
     head: &Head,
 ) -> Checked<()>
     ensures { Moves
-        (spec.outer_faults functions.now (record { here = names.old; made = 0 }) (plain.Prototype (head_view head.now)))
+        (spec.outer_faults functions.now (record { here = names.old; made = 0 })
+        (plain.Prototype (head_view head.now)))
         (spec.declare_head functions.now names.old (head_view head.now)) result names.new }
 {
     declare_head(alloc, names, functions, head)?;
@@ -104,7 +106,8 @@ fn function(
     ensures { Goes function_view
         (spec.outer_faults functions.now (record { here = names.old; made = made })
         (plain.Function (head_view head.now) (stmts_of (map stmt_view body.now))))
-        (spec.typed_function (spec.declare_head functions.now names.old (head_view head.now)) (head_view head.now)
+        (spec.typed_function (spec.declare_head functions.now names.old (head_view head.now))
+        (head_view head.now)
         (stmts_of (map stmt_view body.now)))
         (spec.declare_head functions.now names.old (head_view head.now)) result names.new }
 {
@@ -137,13 +140,17 @@ fn part(
     outer: &Outer,
 ) -> Checked<()>
     ensures moves { Moves
-        (spec.outer_faults functions.now (record { here = names.old; made = length made.old }) (outer_view outer.now))
-        (spec.after_outer functions.now (record { here = names.old; made = length made.old }) (outer_view outer.now)).here
+        (spec.outer_faults functions.now (record { here = names.old; made = length made.old })
+        (outer_view outer.now))
+        (spec.after_outer functions.now (record { here = names.old; made = length made.old })
+        (outer_view outer.now)).here
         result names.new }
     ensures made { OnOk result (map function_view made.new ≡ map function_view made.old
-        ++ functions_of functions.now (record { here = names.old; made = length made.old }) (outer_view outer.now)) }
+        ++ functions_of functions.now (record { here = names.old; made = length made.old })
+        (outer_view outer.now)) }
     ensures numbers { OnOk result (numbers.new ≡ numbers.old
-        ++ numbers_of (record { here = names.old; made = length made.old }) (outer_view outer.now)) }
+        ++ numbers_of (record { here = names.old; made = length made.old })
+        (outer_view outer.now)) }
     ensures count { OnOk result (length made.new
         ≡ (spec.after_outer functions.now (record { here = names.old; made = length made.old })
         (outer_view outer.now)).made) }
@@ -167,11 +174,15 @@ fn parts(
     numbers: &mut Globals,
     outers: &[Outer],
 ) -> Checked<Items<TypedFunction>>
-    ensures { Checks {V = List PlainFunction × List ℤ} (λ made. (map function_view made, numbers.new))
-        (spec.outers_faults functions.now (record { here = names.old; made = 0 }) (map outer_view outers.now)) (
-          spec.typed_functions functions.now (record { here = names.old; made = 0 }) (map outer_view outers.now),
+    ensures { Checks {V = List PlainFunction × List ℤ}
+        (λ made. (map function_view made, numbers.new))
+        (spec.outers_faults functions.now (record { here = names.old; made = 0 })
+        (map outer_view outers.now)) (
+          spec.typed_functions functions.now (record { here = names.old; made = 0 })
+              (map outer_view outers.now),
           numbers.old
-              ++ spec.global_numbers functions.now (record { here = names.old; made = 0 }) (map outer_view outers.now),
+              ++ spec.global_numbers functions.now (record { here = names.old; made = 0 })
+              (map outer_view outers.now),
         )
         result }
 {
@@ -212,7 +223,8 @@ fn defines_main(outers: &[Outer]) -> bool
 
 /// A source with these parts, whose last token ends there, defines `int main(void)`.
 fn has_main(outers: &[Outer], end: u32) -> Checked<()>
-    ensures { Passes (cond (list_any spec.is_main (map outer_view outers.now)) [] (fault.NoMain end ∷ [])) result }
+    ensures { Passes (cond (list_any spec.is_main (map outer_view outers.now)) []
+        (fault.NoMain end ∷ [])) result }
 {
     if defines_main(outers) {
         return Ok(());
@@ -234,7 +246,8 @@ fn main_number(alloc: Global, functions: &Functions<'_>) -> Result<u32, AllocErr
 /// The typed form of a source, or a fault.
 #[tactic(auto, using(c_values::proofs::CheckLaws::in_left, c_values::proofs::CheckLaws::in_right))]
 fn typed_form(alloc: Global, tree: &Tree) -> Checked<Typed>
-    ensures { Checks typed_view (spec.type_faults (tree_view tree.now)) (spec.typed_of (tree_view tree.now)) result }
+    ensures { Checks typed_view (spec.type_faults (tree_view tree.now))
+        (spec.typed_of (tree_view tree.now)) result }
 {
     let outers = tree.outers.as_slice();
     let functions = Functions::of(alloc, outers)?;
@@ -253,7 +266,8 @@ fn typed_form(alloc: Global, tree: &Tree) -> Checked<Typed>
 /// The typed form of a source. `Ok` exactly where no fault of names and types stands in it, but for
 /// want of memory; a refusal names a fault that stands, with its place.
 pub fn check(alloc: Global, tree: &Tree) -> Result<Typed, Refusal<TypeFault>>
-    ensures exact { Checks typed_view (spec.type_faults (tree_view tree.now)) (spec.typed_of (tree_view tree.now)) result }
+    ensures exact { Checks typed_view (spec.type_faults (tree_view tree.now))
+        (spec.typed_of (tree_view tree.now)) result }
     ensures sound { IfOk result (λ typed. IsTree (tree_view tree.now) → Sound (typed_view typed)) }
 {
     typed_form(alloc, tree)

@@ -58,7 +58,8 @@ impl Context {
 
     /// In the braces of a `switch`.
     fn in_switch(self) -> Context
-        ensures { result ≡ record { result = self.result; breaks = true; continues = self.continues } }
+        ensures { result
+            ≡ record { result = self.result; breaks = true; continues = self.continues } }
     {
         Context {
             result: self.result,
@@ -95,7 +96,8 @@ fn condition(
     names: &Scopes,
     e: &Option<Boxed<Expr>>,
 ) -> Checked<Option<Boxed<TypedExpr>>>
-    ensures { Checks (option_map typed_expr_view) (of.test_faults names.now.scopes (option_map expr_view e.now))
+    ensures { Checks (option_map typed_expr_view)
+        (of.test_faults names.now.scopes (option_map expr_view e.now))
         (option_map (typed names.now.scopes) (option_map expr_view e.now)) result }
 {
     match e {
@@ -109,7 +111,8 @@ fn condition(
 
 /// An expression that may be left out, and whose value isn't wanted.
 fn step(alloc: Global, names: &Scopes, e: &Option<Boxed<Expr>>) -> Checked<Option<Boxed<TypedExpr>>>
-    ensures { Checks (option_map typed_expr_view) (of.faults_if names.now.scopes (option_map expr_view e.now))
+    ensures { Checks (option_map typed_expr_view)
+        (of.faults_if names.now.scopes (option_map expr_view e.now))
         (option_map (typed names.now.scopes) (option_map expr_view e.now)) result }
 {
     match e {
@@ -157,8 +160,12 @@ fn case_value(alloc: Global, names: &Scopes, e: &Expr) -> Checked<Option<i128>>
 
 /// The number of a case with this value, converted to the type of its `switch`.
 fn case_number(to: Base, value: Option<i128>, labels: &mut Labels, place: u32) -> Checked<i128>
-    ensures { Checks {V = ℤ × Labelled} (λ n. (n, labels.new)) (of.case_faults (type_of to) labels.old value place)
-        (conversion.convert (type_of to) (unwrap_or value (pos 0)), of.with_case (type_of to) labels.old value) result }
+    ensures { Checks {V = ℤ × Labelled} (λ n. (n, labels.new))
+        (of.case_faults (type_of to) labels.old value place) (
+          conversion.convert (type_of to) (unwrap_or value (pos 0)),
+          of.with_case (type_of to)
+              labels.old value,
+        ) result }
 {
     let Some(n) = value else {
         return Err(Refusal::Refused(TypeFault::BadCase(place)));
@@ -182,9 +189,11 @@ fn case_label(
 ) -> Checked<i128>
     ensures { Checks {V = ℤ × Labelled} (λ n. (n, labels.new))
         (value_faults names.now.scopes (expr_view e.now)
-        ++ of.case_faults (type_of to) labels.old (value_of (typed names.now.scopes (expr_view e.now))) place) (
+        ++ of.case_faults (type_of to) labels.old
+        (value_of (typed names.now.scopes (expr_view e.now))) place) (
           spec.case_number names.now.scopes to (expr_view e.now),
-          of.with_case (type_of to) labels.old (value_of (typed names.now.scopes (expr_view e.now))),
+          of.with_case (type_of to) labels.old
+              (value_of (typed names.now.scopes (expr_view e.now))),
         ) result }
 {
     let value = case_value(alloc, names, e)?;
@@ -218,7 +227,8 @@ fn declaration(alloc: Global, names: &mut Scopes, vars: &Items<Var>) -> Checked<
 fn stmt(alloc: Global, names: &mut Scopes, context: Context, s: &Stmt) -> Checked<TypedStmt>
     ensures { Goes typed_stmt_view
         (of.stmt_faults context.result (inside_of context) names.old (stmt_view s.now))
-        (spec.typed_stmt context.result names.old (stmt_view s.now)) (spec.after names.old (stmt_view s.now))
+        (spec.typed_stmt context.result names.old (stmt_view s.now))
+        (spec.after names.old (stmt_view s.now))
         result names.new }
 {
     match s {
@@ -272,7 +282,8 @@ pub fn stmts(
     ss: &[Stmt],
 ) -> Checked<Items<TypedStmt>>
     ensures { Goes typed_stmts_seen
-        (of.stmts_faults context.result (inside_of context) names.old (stmts_of (map stmt_view ss.now)))
+        (of.stmts_faults context.result (inside_of context) names.old
+        (stmts_of (map stmt_view ss.now)))
         (spec.typed_stmts context.result names.old (stmts_of (map stmt_view ss.now)))
         (spec.after_all names.old (stmts_of (map stmt_view ss.now))) result names.new }
 {
@@ -293,8 +304,10 @@ fn block(
     ss: &Items<Stmt>,
 ) -> Checked<TypedStmt>
     ensures { Goes typed_stmt_view
-        (of.stmts_faults context.result (inside_of context) (inner names.old) (stmts_of (map stmt_view ss.now)))
-        (Typed.Block (spec.typed_stmts context.result (inner names.old) (stmts_of (map stmt_view ss.now))))
+        (of.stmts_faults context.result (inside_of context) (inner names.old)
+        (stmts_of (map stmt_view ss.now)))
+        (Typed.Block
+        (spec.typed_stmts context.result (inner names.old) (stmts_of (map stmt_view ss.now))))
         (leaving names.old (spec.after_all (inner names.old) (stmts_of (map stmt_view ss.now))))
         result names.new }
 {
@@ -313,9 +326,11 @@ fn otherwise(
     s: &Option<Boxed<Stmt>>,
 ) -> Checked<Option<Boxed<TypedStmt>>>
     ensures { Goes typed_other_seen
-        (of.other_faults context.result (inside_of context) (inner names.old) (other_of (option_map stmt_view s.now)))
+        (of.other_faults context.result (inside_of context) (inner names.old)
+        (other_of (option_map stmt_view s.now)))
         (spec.typed_other context.result (inner names.old) (other_of (option_map stmt_view s.now)))
-        (leaving names.old (spec.after_other (inner names.old) (other_of (option_map stmt_view s.now))))
+        (leaving names.old
+        (spec.after_other (inner names.old) (other_of (option_map stmt_view s.now))))
         result names.new }
 {
     match s {
@@ -365,7 +380,8 @@ fn while_loop(
     s: &Stmt,
 ) -> Checked<TypedStmt>
     ensures { Goes typed_stmt_view
-        (of.stmt_faults context.result (inside_of context) names.old (plain.While (expr_view e.now) (stmt_view s.now)))
+        (of.stmt_faults context.result (inside_of context) names.old
+        (plain.While (expr_view e.now) (stmt_view s.now)))
         (spec.typed_stmt context.result names.old (plain.While (expr_view e.now) (stmt_view s.now)))
         (spec.after names.old (plain.While (expr_view e.now) (stmt_view s.now))) result names.new }
 {
@@ -387,9 +403,12 @@ fn do_loop(
     line: u32,
 ) -> Checked<TypedStmt>
     ensures { Goes typed_stmt_view
-        (of.stmt_faults context.result (inside_of context) names.old (plain.DoWhile (stmt_view s.now) (expr_view e.now) line))
-        (spec.typed_stmt context.result names.old (plain.DoWhile (stmt_view s.now) (expr_view e.now) line))
-        (spec.after names.old (plain.DoWhile (stmt_view s.now) (expr_view e.now) line)) result names.new }
+        (of.stmt_faults context.result (inside_of context) names.old
+        (plain.DoWhile (stmt_view s.now) (expr_view e.now) line))
+        (spec.typed_stmt context.result names.old
+        (plain.DoWhile (stmt_view s.now) (expr_view e.now) line))
+        (spec.after names.old (plain.DoWhile (stmt_view s.now) (expr_view e.now) line)) result
+        names.new }
 {
     let s = nested(alloc, names, context.in_loop(), s)?;
     let e = value(alloc, names, e)?;
@@ -406,7 +425,8 @@ fn first_part(
     s: &Option<Stmt>,
 ) -> Checked<Option<TypedStmt>>
     ensures { Goes typed_other_seen
-        (of.other_faults context.result (inside_of context) names.old (other_of (option_map stmt_view s.now)))
+        (of.other_faults context.result (inside_of context) names.old
+        (other_of (option_map stmt_view s.now)))
         (spec.typed_other context.result names.old (other_of (option_map stmt_view s.now)))
         (spec.after_other names.old (other_of (option_map stmt_view s.now))) result names.new }
 {
@@ -427,7 +447,8 @@ fn for_head(
 ) -> Checked<TypedForHead>
     ensures { Goes typed_head_seen
         (of.head_faults context.result (inside_of context) names.old (for_view head.now))
-        (spec.typed_head context.result names.old (for_view head.now)) (spec.after_head names.old (for_view head.now))
+        (spec.typed_head context.result names.old (for_view head.now))
+        (spec.after_head names.old (for_view head.now))
         result names.new }
 {
     let first = first_part(alloc, names, context, &head.first)?;
@@ -447,7 +468,8 @@ fn for_loop(
     s: &Stmt,
 ) -> Checked<TypedStmt>
     ensures { Goes typed_stmt_view
-        (of.stmt_faults context.result (inside_of context) names.old (plain.For (for_view head.now) (stmt_view s.now)))
+        (of.stmt_faults context.result (inside_of context) names.old
+        (plain.For (for_view head.now) (stmt_view s.now)))
         (spec.typed_stmt context.result names.old (plain.For (for_view head.now) (stmt_view s.now)))
         (spec.after names.old (plain.For (for_view head.now) (stmt_view s.now))) result names.new }
 {
@@ -469,7 +491,8 @@ fn switch_item(
     item: &SwitchItem,
 ) -> Checked<TypedSwitchItem>
     ensures { Goes {V = TypedItem × Labelled} (λ i. (typed_item_seen i, labels.new))
-        (of.item_faults context.result (inside_of context) names.old (type_of to) labels.old (item_seen item.now)) (
+        (of.item_faults context.result (inside_of context) names.old (type_of to) labels.old
+        (item_seen item.now)) (
           spec.typed_item context.result names.old to (item_seen item.now),
           of.labelled (type_of to) names.old.scopes labels.old (item_seen item.now),
         )

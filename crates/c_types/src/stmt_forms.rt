@@ -18,7 +18,8 @@ pub fn braces(ss: Items<TypedStmt>) -> TypedStmt
 
 /// A `for`.
 pub fn for_form(alloc: Global, head: TypedForHead, s: TypedStmt) -> Result<TypedStmt, AllocError>
-    ensures { IfOk result (λ made. typed_stmt_view made ≡ Plain.For (typed_head_seen head) (typed_stmt_view s)) }
+    ensures { IfOk result
+        (λ made. typed_stmt_view made ≡ Plain.For (typed_head_seen head) (typed_stmt_view s)) }
 {
     let head = Boxed::new(alloc, head)?;
     Ok(TypedStmt::For(head, Boxed::new(alloc, s)?))
@@ -30,7 +31,8 @@ pub fn switch_form(
     e: TypedExpr,
     items: Items<TypedSwitchItem>,
 ) -> Result<TypedStmt, AllocError>
-    ensures { IfOk result (λ made. typed_stmt_view made ≡ Plain.Switch (typed_expr_view e) (typed_items_seen items)) }
+    ensures { IfOk result
+        (λ made. typed_stmt_view made ≡ Plain.Switch (typed_expr_view e) (typed_items_seen items)) }
 {
     Ok(TypedStmt::Switch(Boxed::new(alloc, e)?, items))
 }

@@ -1,5 +1,5 @@
-//! What the names of a source mean and which types its expressions have: its typed form, the faults that it can have,
-//! and the law that what has none is sound.
+//! What the names of a source mean and which types its expressions have: its typed form, the faults
+//! that it can have, and the law that what has none is sound.
 
 #![tactic(auto)]
 

@@ -39,7 +39,8 @@ fn named(names: &Scopes, name: &Ident, place: u32, line: u32) -> Checked<TypedEx
 /// The array that an indexed name means: its first cell, its length and its type.
 fn array(names: &Scopes, name: &Ident, place: u32) -> Checked<(CellAt, u64, IntType)>
     ensures { Checks (λ a. Some (meant.Variable a.0 (Some a.1) a.2))
-        (of.index_faults (meaning names.now.scopes name.now) place) (meaning names.now.scopes name.now) result }
+        (of.index_faults (meaning names.now.scopes name.now) place)
+        (meaning names.now.scopes name.now) result }
 {
     match names.meaning(name) {
         None => Err(Refusal::Refused(TypeFault::Unknown(place))),
@@ -57,7 +58,8 @@ fn callee<'a>(
     place: u32,
 ) -> Checked<(Callee, Base, &'a [Base])>
     ensures { Checks (λ f. Some (meant.Function (Some f.0) f.1 f.2.now))
-        (of.call_faults (meaning names.now.scopes name.now) count place) (meaning names.now.scopes name.now) result }
+        (of.call_faults (meaning names.now.scopes name.now) count place)
+        (meaning names.now.scopes name.now) result }
 {
     match names.meaning(name) {
         None => Err(Refusal::Refused(TypeFault::Unknown(place))),
@@ -84,7 +86,8 @@ pub enum Designated {
 
 /// What an expression designates.
 fn designates(names: &Scopes, e: &Expr) -> Designated
-    ensures { (operator fs : _) → of.changed names.now.scopes (of.bare (expr_view e.now)) operator fs
+    ensures { (operator fs : _)
+        → of.changed names.now.scopes (of.bare (expr_view e.now)) operator fs
         ≡ turned result operator fs }
 {
     match &e.kind {
@@ -216,7 +219,8 @@ pub fn value(alloc: Global, names: &Scopes, e: &Expr) -> Checked<TypedExpr>
 #[cycle(expr)]
 #[tactic(auto, using(crate::proofs::CheckLaws::in_left, crate::proofs::CheckLaws::in_right))]
 fn values(alloc: Global, names: &Scopes, l: &Expr, r: &Expr) -> Checked<(TypedExpr, TypedExpr)>
-    ensures { Checks pair_view (of.operand_faults names.now.scopes (expr_view l.now) (expr_view r.now))
+    ensures { Checks pair_view
+        (of.operand_faults names.now.scopes (expr_view l.now) (expr_view r.now))
         (spec.typed_pair names.now.scopes (expr_view l.now) (expr_view r.now)) result }
 {
     let l = value(alloc, names, l)?;
@@ -240,7 +244,8 @@ fn both(alloc: Global, names: &Scopes, l: &Expr, r: &Expr) -> Checked<(TypedExpr
 #[cycle(expr)]
 #[tactic(auto, using(crate::proofs::CheckLaws::in_first_side, crate::proofs::CheckLaws::in_second_side))]
 fn sides(alloc: Global, names: &Scopes, x: &Expr, y: &Expr) -> Checked<(TypedExpr, TypedExpr)>
-    ensures { Checks pair_view (of.sides_faults names.now.scopes (expr_view x.now) (expr_view y.now))
+    ensures { Checks pair_view
+        (of.sides_faults names.now.scopes (expr_view x.now) (expr_view y.now))
         (spec.typed_pair names.now.scopes (expr_view x.now) (expr_view y.now)) result }
 {
     let first = expr(alloc, names, x)?;
@@ -262,7 +267,8 @@ fn choice(
 ) -> Checked<TypedExpr>
     ensures { Checks typed_expr_view
         (of.choice_faults names.now.scopes (expr_view c.now) (expr_view x.now) (expr_view y.now))
-        (spec.chosen (spec.typed names.now.scopes (expr_view c.now)) (spec.typed names.now.scopes (expr_view x.now))
+        (spec.chosen (spec.typed names.now.scopes (expr_view c.now))
+        (spec.typed names.now.scopes (expr_view x.now))
         (spec.typed names.now.scopes (expr_view y.now)) at.0 at.1) result }
 {
     let c = value(alloc, names, c)?;
@@ -338,7 +344,8 @@ fn call(
     at: (u32, u32),
 ) -> Checked<TypedExpr>
     ensures { Checks typed_expr_view
-        (of.call_faults (meaning names.now.scopes name.now) (of.count (exprs_of (map expr_view args.now))) at.0
+        (of.call_faults (meaning names.now.scopes name.now)
+        (of.count (exprs_of (map expr_view args.now))) at.0
         ++ of.args_faults names.now.scopes (exprs_of (map expr_view args.now)))
         (spec.called (meaning names.now.scopes name.now)
         (spec.typed_args names.now.scopes (exprs_of (map expr_view args.now))) at.0 at.1) result }
@@ -357,7 +364,8 @@ fn passed(
     args: &[Expr],
 ) -> Checked<Items<TypedExpr>>
     ensures { Checks args_view (of.args_faults names.now.scopes (exprs_of (map expr_view args.now)))
-        (spec.passed params.now (spec.typed_args names.now.scopes (exprs_of (map expr_view args.now)))) result }
+        (spec.passed params.now
+        (spec.typed_args names.now.scopes (exprs_of (map expr_view args.now)))) result }
 {
     let mut passed = Items::new(alloc);
     for (at, arg) in args.iter().enumerate() {

@@ -84,7 +84,8 @@ pub fn passed(
     params: &[Base],
     at: usize,
 ) -> Result<TypedExpr, AllocError>
-    ensures { IfOk result (λ e. typed_expr_view e ≡ passed_first (drop at params.now) (typed_expr_view arg)) }
+    ensures { IfOk result
+        (λ e. typed_expr_view e ≡ passed_first (drop at params.now) (typed_expr_view arg)) }
 {
     match params.get(at) {
         Some(to) => converted(alloc, arg, *to),
@@ -106,7 +107,8 @@ pub fn name(cell: CellAt, t: IntType, place: u32, line: u32) -> TypedExpr
 
 /// A number of a type.
 pub fn number(number: i128, t: IntType, place: u32, line: u32) -> TypedExpr
-    ensures { typed_expr_view result ≡ Plain.At (PlainKind.Number number t) (base.Int t) place line }
+    ensures { typed_expr_view result
+        ≡ Plain.At (PlainKind.Number number t) (base.Int t) place line }
 {
     TypedExpr {
         kind: TypedKind::Number(number, t),
@@ -151,7 +153,8 @@ pub fn element(
     line: u32,
 ) -> Result<TypedExpr, AllocError>
     ensures { IfOk result (λ e. typed_expr_view e ≡ Plain.At
-        (PlainKind.Index array.0 array.1 name.0 name.1 (typed_expr_view index)) (base.Int array.2) place line) }
+        (PlainKind.Index array.0 array.1 name.0 name.1 (typed_expr_view index)) (base.Int array.2)
+        place line) }
 {
     let index = Boxed::new(alloc, index)?;
     Ok(TypedExpr {
@@ -173,7 +176,8 @@ fn both(
     line: u32,
 ) -> Result<TypedExpr, AllocError>
     ensures { IfOk result (λ e. typed_expr_view e
-        ≡ spec.both op left.1 (typed_expr_view left.0) right.1 (typed_expr_view right.0) base place line) }
+        ≡ spec.both op left.1 (typed_expr_view left.0) right.1 (typed_expr_view right.0) base place
+        line) }
 {
     let l = converted(alloc, left.0, left.1)?;
     let r = converted(alloc, right.0, right.1)?;
@@ -223,7 +227,8 @@ pub fn operated(
 /// The operand promoted.
 fn lifted(alloc: Global, operand: TypedExpr) -> Result<TypedExpr, AllocError>
     ensures { IfOk result (λ e. typed_expr_view e
-        ≡ spec.converted (typed_expr_view operand) (spec.promoted_base (base_of (typed_expr_view operand)))) }
+        ≡ spec.converted (typed_expr_view operand)
+        (spec.promoted_base (base_of (typed_expr_view operand)))) }
 {
     let to = promoted_base(operand.base);
     converted(alloc, operand, to)
@@ -237,7 +242,8 @@ pub fn plus(
     line: u32,
 ) -> Result<TypedExpr, AllocError>
     ensures { IfOk result (λ e. typed_expr_view e ≡ spec.signed PlainKind.Plus
-        (spec.promoted_base (base_of (typed_expr_view operand))) (typed_expr_view operand) place line) }
+        (spec.promoted_base (base_of (typed_expr_view operand))) (typed_expr_view operand) place
+        line) }
 {
     let base = promoted_base(operand.base);
     let operand = lifted(alloc, operand)?;
@@ -258,7 +264,8 @@ pub fn minus(
     line: u32,
 ) -> Result<TypedExpr, AllocError>
     ensures { IfOk result (λ e. typed_expr_view e ≡ spec.signed PlainKind.Minus
-        (spec.promoted_base (base_of (typed_expr_view operand))) (typed_expr_view operand) place line) }
+        (spec.promoted_base (base_of (typed_expr_view operand))) (typed_expr_view operand) place
+        line) }
 {
     let base = promoted_base(operand.base);
     let operand = lifted(alloc, operand)?;
@@ -279,7 +286,8 @@ pub fn complement(
     line: u32,
 ) -> Result<TypedExpr, AllocError>
     ensures { IfOk result (λ e. typed_expr_view e ≡ spec.signed PlainKind.Complement
-        (spec.promoted_base (base_of (typed_expr_view operand))) (typed_expr_view operand) place line) }
+        (spec.promoted_base (base_of (typed_expr_view operand))) (typed_expr_view operand) place
+        line) }
 {
     let base = promoted_base(operand.base);
     let operand = lifted(alloc, operand)?;
@@ -340,7 +348,8 @@ pub fn and_also(
     line: u32,
 ) -> Result<TypedExpr, AllocError>
     ensures { IfOk result (λ e. typed_expr_view e
-        ≡ Plain.At (PlainKind.AndAlso (typed_expr_view l) (typed_expr_view r)) spec.int place line) }
+        ≡ Plain.At (PlainKind.AndAlso (typed_expr_view l) (typed_expr_view r)) spec.int place
+        line) }
 {
     let l = Boxed::new(alloc, l)?;
     let kind = TypedKind::AndAlso(l, Boxed::new(alloc, r)?);
@@ -384,7 +393,8 @@ fn choose(
     line: u32,
 ) -> Result<TypedExpr, AllocError>
     ensures { IfOk result (λ e. typed_expr_view e ≡ Plain.At
-        (PlainKind.Choose (typed_expr_view c) (typed_expr_view x) (typed_expr_view y)) base place line) }
+        (PlainKind.Choose (typed_expr_view c) (typed_expr_view x) (typed_expr_view y)) base place
+        line) }
 {
     let c = Boxed::new(alloc, c)?;
     let x = Boxed::new(alloc, x)?;
@@ -464,7 +474,8 @@ pub fn before(
     line: u32,
 ) -> Result<TypedExpr, AllocError>
     ensures { IfOk result (λ e. typed_expr_view e
-        ≡ Plain.At (PlainKind.Before op (typed_expr_view operand)) (base_of (typed_expr_view operand)) place line) }
+        ≡ Plain.At (PlainKind.Before op (typed_expr_view operand))
+        (base_of (typed_expr_view operand)) place line) }
 {
     let base = operand.base;
     let kind = TypedKind::Before(op, Boxed::new(alloc, operand)?);
@@ -485,7 +496,8 @@ pub fn after(
     line: u32,
 ) -> Result<TypedExpr, AllocError>
     ensures { IfOk result (λ e. typed_expr_view e
-        ≡ Plain.At (PlainKind.After op (typed_expr_view operand)) (base_of (typed_expr_view operand)) place line) }
+        ≡ Plain.At (PlainKind.After op (typed_expr_view operand))
+        (base_of (typed_expr_view operand)) place line) }
 {
     let base = operand.base;
     let kind = TypedKind::After(op, Boxed::new(alloc, operand)?);
@@ -506,7 +518,8 @@ pub fn comma(
     line: u32,
 ) -> Result<TypedExpr, AllocError>
     ensures { IfOk result (λ e. typed_expr_view e
-        ≡ Plain.At (PlainKind.Comma (typed_expr_view l) (typed_expr_view r)) (base_of (typed_expr_view r)) place line) }
+        ≡ Plain.At (PlainKind.Comma (typed_expr_view l) (typed_expr_view r))
+        (base_of (typed_expr_view r)) place line) }
 {
     let base = r.base;
     let l = Boxed::new(alloc, l)?;

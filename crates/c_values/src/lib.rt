@@ -1,5 +1,5 @@
-//! The check of expressions: what names mean where they stand, the typed form of an expression, or a
-//! fault that stands in it; what constant expressions come to.
+//! The check of expressions: what names mean where they stand, the typed form of an expression, or
+//! a fault that stands in it; what constant expressions come to.
 
 #![tactic(auto)]
 

@@ -69,7 +69,8 @@ fn function_values(
     start: u64,
     function: &FunctionCode,
 ) -> Result<Option<RuleFault>, NoMemory>
-    requires layout { layout_fault function.now.paths function.now.passes function.now.table ≡ None }
+    requires layout { layout_fault function.now.paths function.now.passes function.now.table
+        ≡ None }
     requires start { start + length function.now.ops ≤ limit.instruction_limit }
     ensures { IfOk result
         (λ fault. seen.found fault ≡ spec.function_values code.now start function.now) }

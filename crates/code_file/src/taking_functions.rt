@@ -137,7 +137,8 @@ fn take_paths(
     counters: u32,
 ) -> Result<u32, Refusal<CodeFault>>
     requires { numbers ≤ limit.number_limit }
-    ensures value { spec.Takes (λ n. n) (item.with_field (spec.paths_there covered numbers counters))
+    ensures value { spec.Takes (λ n. n)
+        (item.with_field (spec.paths_there covered numbers counters))
         reader.old reader.new result }
     ensures few { IfOk result (λ n. numbers + (counters + words_in n) ≤ limit.number_limit) }
 {
@@ -220,7 +221,8 @@ fn take_function(
     requires start { start ≤ limit.instruction_limit }
     ensures value { spec.Takes (λ x. spec.placed x.0 x.1)
         (item.with_function covered numbers start) reader.old reader.new result }
-    ensures numbers { IfOk result (λ x. numbers + spec_numbers.numbers_in x.0 ≤ limit.number_limit) }
+    ensures numbers { IfOk result
+        (λ x. numbers + spec_numbers.numbers_in x.0 ≤ limit.number_limit) }
     ensures start { IfOk result (λ x. start + length x.0.ops ≤ limit.instruction_limit) }
     ensures places { IfOk result (λ x. length x.1.ops ≡ length x.0.ops) }
 {

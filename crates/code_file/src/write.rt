@@ -70,7 +70,8 @@ fn put_globals(out: &mut Vec<u8>, globals: &[i128]) -> Result<(), NoMemory>
 #[tactic(auto, unfolding(crate::specs::Spelling::functions_bytes))]
 fn put_functions(out: &mut Vec<u8>, functions: &[FunctionCode]) -> Result<(), NoMemory>
     requires { All (λ f. spec.IsWritable f) functions.now }
-    ensures spelled { OnOk result (out.new.items ≡ out.old.items ++ spec.functions_bytes functions.now) }
+    ensures spelled { OnOk result
+        (out.new.items ≡ out.old.items ++ spec.functions_bytes functions.now) }
     ensures fit { OnOk result (All (λ f. IsFunctionInWords f) functions.now) }
 {
     for function in functions.iter() {
@@ -81,7 +82,8 @@ fn put_functions(out: &mut Vec<u8>, functions: &[FunctionCode]) -> Result<(), No
 
 fn put_function(out: &mut Vec<u8>, function: &FunctionCode) -> Result<(), NoMemory>
     requires { spec.IsWritable function.now }
-    ensures spelled { OnOk result (out.new.items ≡ out.old.items ++ spec.function_bytes function.now) }
+    ensures spelled { OnOk result
+        (out.new.items ≡ out.old.items ++ spec.function_bytes function.now) }
     ensures fit { OnOk result (IsFunctionInWords function.now) }
 {
     put_words(

@@ -4,8 +4,8 @@ use cov_outside::{MemFolder, MemSink, MemSource, Source};
 use cov_program::{perform, status_of};
 use std::alloc::{AllocError, Global};
 
-/// A command: its words and standard input, and the numbers of the calls of standard input, the output
-/// and the error output that fail.
+/// A command: its words and standard input, and the numbers of the calls of standard input, the
+/// output and the error output that fail.
 #[derive(Drop)]
 pub(crate) struct Call {
     pub(crate) words: Vec<String>,
@@ -15,8 +15,8 @@ pub(crate) struct Call {
     pub(crate) in_err: Vec<u64>,
 }
 
-/// What a command left: its answer as `Debug` prints it, its exit status, what it wrote, and how many
-/// bytes of standard input it left, up to 9.
+/// What a command left: its answer as `Debug` prints it, its exit status, what it wrote, and how
+/// many bytes of standard input it left, up to 9.
 #[derive(Drop)]
 pub(crate) struct Outcome {
     pub(crate) end: String,

@@ -25,8 +25,8 @@
 //! = 120 Missing("Q.gcno")
 //! ```
 //!
-//! Empty lines, and lines that begin with `#`, say nothing. The files of a session lie ready by their
-//! names, where no command sees them; of two of one name the last counts:
+//! Empty lines, and lines that begin with `#`, say nothing. The files of a session lie ready by
+//! their names, where no command sees them; of two of one name the last counts:
 //!
 //! - `file NAME`: the lines up to a line `end` are a file, each with its newline.
 //! - `file NAME "TEXT"`: so is what stands between the quotes, as it stands there.
@@ -42,10 +42,12 @@
 //!   `NAME=OTHER` is a copy of OTHER under the name NAME.
 //! - `keep NAME ..`, `keep NAME as OTHER`: the folder's files lie ready too, under their names or
 //!   another.
-//! - `fail folder NUMBER ..`: of the calls of the next folder those with these numbers fail, from 0 on.
-//! - `fail input NUMBER ..`, `fail output NUMBER ..`, `fail errors NUMBER ..`: so do those of the next
-//!   command's standard input, output and error output.
-//! - `$ WORDS`, `$ WORDS < NAME`: the command runs, on nothing or on that file as its standard input.
+//! - `fail folder NUMBER ..`: of the calls of the next folder those with these numbers fail, from 0
+//!   on.
+//! - `fail input NUMBER ..`, `fail output NUMBER ..`, `fail errors NUMBER ..`: so do those of the
+//!   next command's standard input, output and error output.
+//! - `$ WORDS`, `$ WORDS < NAME`: the command runs, on nothing or on that file as its standard
+//!   input.
 //!
 //! What must have come stands behind the command and ends with its answer:
 //!
@@ -53,15 +55,15 @@
 //! - `output NAME`: what is in that file, further on in the output.
 //! - `more`: at least a byte of output further on, which isn't shown.
 //! - `! TEXT`: a line of the error output.
-//! - `= STATUS ANSWER`: the exit status, and the answer as `Debug` prints it. No other output, and no
-//!   other line of the error output, has come.
+//! - `= STATUS ANSWER`: the exit status, and the answer as `Debug` prints it. No other output, and
+//!   no other line of the error output, has come.
 //!
 //! Behind that line more can be said:
 //!
 //! - `holds NAME`: what is in that file stands somewhere in the output.
 //! - `left COUNT`: so many bytes of standard input were left, up to 9.
-//! - `same NAME ..`, `same NAME as OTHER`: the folder's files are the same as those that lie ready under
-//!   their names or another.
+//! - `same NAME ..`, `same NAME as OTHER`: the folder's files are the same as those that lie ready
+//!   under their names or another.
 //! - `changed NAME`, `changed NAME as OTHER`: the folder's file is there, but not the same.
 //! - `begins NAME as OTHER`: it begins as the other.
 //! - `there NAME ..`, `absent NAME ..`: the folder has files of these names, or none.

@@ -4,9 +4,9 @@ use crate::session::Session;
 use crate::stops::{Stop, at_line};
 use std::alloc::{AllocError, Global};
 
-/// Plays a session, which may stand in several texts, one behind the other. Gives the first step that
-/// came out otherwise, with its line, what was expected and what came; where all came as it says, the
-/// text is empty.
+/// Plays a session, which may stand in several texts, one behind the other. Gives the first step
+/// that came out otherwise, with its line, what was expected and what came; where all came as it
+/// says, the text is empty.
 pub fn play(alloc: Global, texts: &[&str]) -> Result<String, AllocError> {
     match play_all(alloc, texts) {
         Ok(()) => Ok(String::new(alloc)),

@@ -43,7 +43,8 @@ impl Fails {
     }
 }
 
-/// What lies ready, the file whose lines are read, the folder, what fails next, and the last command.
+/// What lies ready, the file whose lines are read, the folder, what fails next, and the last
+/// command.
 #[derive(Drop)]
 pub(crate) struct Session {
     alloc: Global,

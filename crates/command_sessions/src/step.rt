@@ -6,8 +6,8 @@ use crate::stops::{Stop, told};
 use std::alloc::Global;
 use std::str;
 
-/// What a command left, and what the session has said of its outputs; whether more output is there that
-/// the session doesn't show, and whether its answer was told.
+/// What a command left, and what the session has said of its outputs; whether more output is there
+/// that the session doesn't show, and whether its answer was told.
 #[derive(Drop)]
 pub(crate) struct Step {
     alloc: Global,

@@ -70,7 +70,8 @@ pub(crate) trait FileCalls {
         ensures fits { IfOk result (λ n. n ≤ length piece.now) }
         ensures goes { IfOk result (λ n. 0 < length piece.now → 0 < n) }
         ensures named { name_of file.new ≡ name_of file.old }
-        ensures appends { Told (Appends (name_of file.old) result piece.now) (files self.old) (files self.new) }
+        ensures appends { Told (Appends (name_of file.old) result piece.now) (files self.old)
+            (files self.new) }
         ensures cause { HasCause (faults self.old) (faults self.new) (IsCallFault result) };
 
     /// Waits until all that was written to a created file is on the disk.

@@ -18,10 +18,12 @@ pub trait Folder {
         ensures limit { IfOk result (λ found. IfSome found (λ bytes. length bytes.items ≤ limit)) }
         ensures loads { Loads (files self.old) name.now limit result }
         ensures kept { files self.new ≡ files self.old }
-        ensures cause { HasCause (faults self.old) (faults self.new) (IsErrOf result LoadFault.Failed) };
+        ensures cause { HasCause (faults self.old) (faults self.new)
+            (IsErrOf result LoadFault.Failed) };
 
     /// Puts the bytes under the name. Where that fails, the files are as they were.
     fn replace(&mut self, name: &str, bytes: &[u8]) -> Result<(), SinkFault>
         ensures replaces { Replaces (files self.old) (files self.new) name.now bytes.now result }
-        ensures cause { HasCause (faults self.old) (faults self.new) (IsErrOf result SinkFault.Failed) };
+        ensures cause { HasCause (faults self.old) (faults self.new)
+            (IsErrOf result SinkFault.Failed) };
 }

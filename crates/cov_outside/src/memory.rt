@@ -56,8 +56,10 @@ impl Source for MemSource {
 
     fn read(&mut self, into: &mut [u8]) -> Result<usize, Failed>
         ensures fits { IfOk result (λ n. n ≤ length into.new) }
-        ensures reads { Reads (Some (source_remaining self.old)) (Some (source_remaining self.new)) result into.new }
-        ensures cause { HasCause (source_log self.old).faults (source_log self.new).faults (IsErr result) }
+        ensures reads { Reads (Some (source_remaining self.old)) (Some (source_remaining self.new))
+            result into.new }
+        ensures cause { HasCause (source_log self.old).faults (source_log self.new).faults
+            (IsErr result) }
         ensures numbered { Numbered (source_log self.old) (source_log self.new) (IsErr result) }
     {
         if self.calls.fails() {
@@ -109,11 +111,14 @@ impl Sink for MemSink {
 
     fn write(&mut self, piece: &[u8]) -> Result<usize, SinkFault>
         ensures whole { IfOk result (λ n. n ≡ length piece.now) }
-        ensures writes { Writes (Some (sink_written self.old)) (Some (sink_written self.new)) result piece.now }
+        ensures writes { Writes (Some (sink_written self.old)) (Some (sink_written self.new)) result
+            piece.now }
         ensures cause { HasCause (sink_log self.old).faults (sink_log self.new).faults
             (IsErrOf result SinkFault.Failed) }
-        ensures numbered { Numbered (sink_log self.old) (sink_log self.new) (IsErrOf result SinkFault.Failed) }
-        ensures want { HasCause (sink_wants self.old) (sink_wants self.new) (IsErrOf result SinkFault.NoMemory) }
+        ensures numbered { Numbered (sink_log self.old) (sink_log self.new)
+            (IsErrOf result SinkFault.Failed) }
+        ensures want { HasCause (sink_wants self.old) (sink_wants self.new)
+            (IsErrOf result SinkFault.NoMemory) }
         ensures counted { sink_wants self.new ≡ wants_after result (sink_wants self.old) }
     {
         if self.calls.fails() {
@@ -167,7 +172,8 @@ impl Folder for MemFolder {
         ensures kept { folder_files self.new ≡ folder_files self.old }
         ensures cause { HasCause (folder_log self.old).faults (folder_log self.new).faults
             (IsErrOf result LoadFault.Failed) }
-        ensures numbered { Numbered (folder_log self.old) (folder_log self.new) (IsErrOf result LoadFault.Failed) }
+        ensures numbered { Numbered (folder_log self.old) (folder_log self.new)
+            (IsErrOf result LoadFault.Failed) }
     {
         if self.calls.fails() {
             return Err(LoadFault::Failed);
@@ -180,7 +186,8 @@ impl Folder for MemFolder {
             name.now bytes.now result }
         ensures cause { HasCause (folder_log self.old).faults (folder_log self.new).faults
             (IsErrOf result SinkFault.Failed) }
-        ensures numbered { Numbered (folder_log self.old) (folder_log self.new) (IsErrOf result SinkFault.Failed) }
+        ensures numbered { Numbered (folder_log self.old) (folder_log self.new)
+            (IsErrOf result SinkFault.Failed) }
     {
         if self.calls.fails() {
             return Err(SinkFault::Failed);

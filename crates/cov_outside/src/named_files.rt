@@ -59,7 +59,8 @@ impl NamedFiles {
 
     /// Puts the bytes under the name.
     pub(crate) fn replace(&mut self, name: &str, bytes: &[u8]) -> Result<(), SinkFault>
-        ensures replaces { Replaces (Some (last_file self.old)) (Some (last_file self.new)) name.now bytes.now
+        ensures replaces { Replaces (Some (last_file self.old)) (Some (last_file self.new)) name.now
+            bytes.now
             result }
         ensures fault { result ≢ Err SinkFault.Failed }
     {

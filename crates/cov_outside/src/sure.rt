@@ -81,9 +81,11 @@ impl Sink for SureSink {
 
     fn write(&mut self, piece: &[u8]) -> Result<usize, SinkFault>
         ensures whole { IfOk result (λ n. n ≡ length piece.now) }
-        ensures writes { Writes (Some (sure_written self.old)) (Some (sure_written self.new)) result piece.now }
+        ensures writes { Writes (Some (sure_written self.old)) (Some (sure_written self.new)) result
+            piece.now }
         ensures cause { HasCause 0 0 (IsErrOf result SinkFault.Failed) }
-        ensures want { HasCause (sure_wants self.old) (sure_wants self.new) (IsErrOf result SinkFault.NoMemory) }
+        ensures want { HasCause (sure_wants self.old) (sure_wants self.new)
+            (IsErrOf result SinkFault.NoMemory) }
         ensures counted { sure_wants self.new ≡ wants_after result (sure_wants self.old) }
     {
         let answer = self.written.append(piece);

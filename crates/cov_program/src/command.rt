@@ -19,15 +19,16 @@ use std::alloc::Global;
 
 /// Does what the words ask for, and says how it ended; `words` are those after the program's name.
 ///
-/// `cover [--turns N] [--path-limit N] SRC IN..` loads the C source SRC and compiles it to code that
-/// counts, loads each input IN and runs the code on it, and writes the runs' texts and the report on
-/// lines, blocks, arcs and prime paths to `out`. `build [--plain] [--path-limit N] SRC` loads SRC,
-/// which is NAME`.c`, compiles it, and replaces NAME`.gcno` by its notes and NAME`.code` by its code,
-/// or with `--plain` NAME`.code` alone by code that doesn't count. `run [--turns N] NAME` loads
-/// NAME`.code`, reads `input` to its end, runs the code on it, writes the output to `out`, and adds
-/// what was counted to NAME`.gcda`. `report NAME` loads NAME`.gcno`, NAME`.c` and NAME`.gcda`, and
-/// writes the report to `out`. `merge A B OUT` loads A`.gcda` and B`.gcda`, and replaces OUT`.gcda` by
-/// the counts of both. Where a command doesn't do all that it does, a line on `err` says why.
+/// `cover [--turns N] [--path-limit N] SRC IN..` loads the C source SRC and compiles it to code
+/// that counts, loads each input IN and runs the code on it, and writes the runs' texts and the
+/// report on lines, blocks, arcs and prime paths to `out`. `build [--plain] [--path-limit N] SRC`
+/// loads SRC, which is NAME`.c`, compiles it, and replaces NAME`.gcno` by its notes and NAME`.code`
+/// by its code, or with `--plain` NAME`.code` alone by code that doesn't count. `run [--turns N]
+/// NAME` loads NAME`.code`, reads `input` to its end, runs the code on it, writes the output to
+/// `out`, and adds what was counted to NAME`.gcda`. `report NAME` loads NAME`.gcno`, NAME`.c` and
+/// NAME`.gcda`, and writes the report to `out`. `merge A B OUT` loads A`.gcda` and B`.gcda`, and
+/// replaces OUT`.gcda` by the counts of both. Where a command doesn't do all that it does, a line
+/// on `err` says why.
 pub fn perform<S: Source, K: Sink, E: Sink, F: Folder>(
     alloc: Global,
     words: &[String],

@@ -5,11 +5,11 @@ use clap::error::ErrorKind;
 /// A command, with what its words give it.
 #[derive(Debug, Drop)]
 pub enum Command {
-    /// `cover [--turns N] [--path-limit N] SRC IN..`: the turns of each run, the most prime paths of
-    /// a function that are listed, the source's name, and the names of one or more inputs.
+    /// `cover [--turns N] [--path-limit N] SRC IN..`: the turns of each run, the most prime paths
+    /// of a function that are listed, the source's name, and the names of one or more inputs.
     Cover(u64, u32, String, Vec<String>),
-    /// `build [--plain] [--path-limit N] SRC`: whether the code is to be plain, the most prime paths
-    /// of a function that are listed, and the source's name.
+    /// `build [--plain] [--path-limit N] SRC`: whether the code is to be plain, the most prime
+    /// paths of a function that are listed, and the source's name.
     Build(bool, u32, String),
     /// `run [--turns N] NAME`: the turns of the run, and the name.
     Run(u64, String),

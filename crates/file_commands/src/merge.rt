@@ -14,8 +14,8 @@ use cov_outside::Folder;
 use gcda_format::{Data, write_data};
 use std::alloc::Global;
 
-/// Adds the data of two programs, and replaces the data of a third by those of both. All files stand
-/// where the answer isn't `Done`.
+/// Adds the data of two programs, and replaces the data of a third by those of both. All files
+/// stand where the answer isn't `Done`.
 ///
 /// # Errors
 ///

@@ -23,10 +23,11 @@ use std::alloc::Global;
 ///
 /// # Errors
 ///
-/// Those of loading notes and then the source, and `SourceChanged` where it isn't that of the notes.
-/// Those of loading data but `Missing`. Then `OtherBuild`, `OtherShape` or `NotAFlow`, the first
-/// that stands, where notes and data have no tally. Up to there nothing is written. `WriteFault`
-/// where the text couldn't be written whole, and `NoMemory`, behind which its first bytes may be.
+/// Those of loading notes and then the source, and `SourceChanged` where it isn't that of the
+/// notes. Those of loading data but `Missing`. Then `OtherBuild`, `OtherShape` or `NotAFlow`, the
+/// first that stands, where notes and data have no tally. Up to there nothing is written.
+/// `WriteFault` where the text couldn't be written whole, and `NoMemory`, behind which its first
+/// bytes may be.
 pub fn report<K: Sink, F: Folder>(alloc: Global, name: &str, out: &mut K, folder: &mut F) -> End
     ensures writes { Writes (spec.ReportSteps (F.files folder.old) name.now)
         (K.written out.old) (K.written out.new) result }

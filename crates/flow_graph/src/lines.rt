@@ -59,7 +59,8 @@ impl Lines {
 /// block come nearly in their order, so it looks from the end.
 fn find(lines: &[u32], line: u32) -> Result<usize, usize>
     requires { Ascends lines.now }
-    ensures { MatchResult result (λ k. slice_get lines.now k ≡ Some line) (HasPlace lines.now line) }
+    ensures { MatchResult result (λ k. slice_get lines.now k ≡ Some line)
+        (HasPlace lines.now line) }
 {
     let mut at = lines.len();
     while at > 0 {

@@ -17,9 +17,9 @@ use span_tree::SpanTree;
 pub struct NotAFlow(pub u32);
 
 /// Puts on each arc the number that the counters of the arcs off the tree give it: the only numbers
-/// that agree with them and balance at each block, where an unwritten arc from the exit to the entry
-/// has one too. Where a number is negative, the first such arc is told, and all numbers stand as
-/// well. Takes no memory, and time in proportion to the blocks and arcs.
+/// that agree with them and balance at each block, where an unwritten arc from the exit to the
+/// entry has one too. Where a number is negative, the first such arc is told, and all numbers stand
+/// as well. Takes no memory, and time in proportion to the blocks and arcs.
 pub fn solve(net: &Net, tree: &SpanTree, given: &[u64], out: &mut [i128]) -> Result<(), NotAFlow>
     requires tree { tree.now ≡ arrivals net.now }
     requires counters { length given.now ≡ length (off net.now) }

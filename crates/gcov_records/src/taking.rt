@@ -31,7 +31,8 @@ pub fn take_fixed(
     wanted: u32,
     fault: FileFault,
 ) -> Result<(), Refusal<FileFault>>
-    ensures { spec.Gives (λ x. wanted) (spec.fixed wanted (λ at. fault)) reader.old reader.new result }
+    ensures { spec.Gives (λ x. wanted) (spec.fixed wanted (λ at. fault)) reader.old reader.new
+        result }
 {
     if take_word(reader)? != wanted {
         return Err(Refusal::Refused(fault));

@@ -1,5 +1,5 @@
-//! Laws of the commands for a C source. They speak of definitions alone, so that no change of a body
-//! proves them again.
+//! Laws of the commands for a C source. They speak of definitions alone, so that no change of a
+//! body proves them again.
 
 ghost use Rattle.headline.specs.Laws.{CoversAreMeant, ReadyIsCovered, RunsAreMeant};
 ghost use Rattle.headline.specs.Laws.{MergesAddUp, OpenRunsAreMeant, ReportsAreMeant, RunsAddUp};

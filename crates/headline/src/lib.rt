@@ -1,4 +1,5 @@
-//! What `cov` is for: its runs do what a C source means, and its reports tell what their walks passed and contained.
+//! What `cov` is for: its runs do what a C source means, and its reports tell what their walks
+//! passed and contained.
 
 #![tactic(auto)]
 

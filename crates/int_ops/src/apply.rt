@@ -48,7 +48,8 @@ pub fn binary(op: BinOp, t: IntType, a: i128, b: i128) -> Result<i128, ArithTrap
         exact { Add sum Sub difference And bits_of_both Xor bits_of_one Or bits_of_any }
         tests { Less < Greater > LessEqual <= GreaterEqual >= Equal == NotEqual != }
         own {
-            Mul multiply right Div divide right Rem take_rest right Shl shift_left b Shr shift_right b
+            Mul multiply right Div divide right Rem take_rest right
+            Shl shift_left b Shr shift_right b
         }
     )
 }

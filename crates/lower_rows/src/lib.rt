@@ -1,4 +1,5 @@
-//! The graphs of a text before they are pruned; and tests of lowering, with a plain interpreter of graphs.
+//! The graphs of a text before they are pruned; and tests of lowering, with a plain interpreter of
+//! graphs.
 #![tactic(auto)]
 
 mod lowered_text;

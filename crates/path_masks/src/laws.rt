@@ -20,8 +20,8 @@ pub fn masks()
 
 /// What `list_primes` and `rows_of` give for a net belongs together: along any walk of the net the
 /// bits are exactly those of its prime paths that are under way, and after any walks the words seen
-/// are exactly the bits of its prime paths that some walk contains. Each entry of the rows names one
-/// of the words, as `begin` and `pass` want it.
+/// are exactly the bits of its prime paths that some walk contains. Each entry of the rows names
+/// one of the words, as `begin` and `pass` want it.
 ///
 /// It does nothing: a caller gets its clauses.
 pub fn primes()

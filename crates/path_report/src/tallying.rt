@@ -49,7 +49,8 @@ fn tally_noted(
 ) -> Result<FunctionTally, Refusal<TallyFault>>
     requires limit { limit ≤ 65536 }
     requires counts { HasCounts counts.now }
-    ensures tally { TalliesFunction limit k function.now.checksum function.now.net counts.now result }
+    ensures tally { TalliesFunction limit k function.now.checksum function.now.net counts.now
+        result }
     ensures of { IfOk result (λ t. IsOf limit function.now.net t) }
 {
     tally_function(alloc, limit, k, function.checksum, &function.net, counts)

@@ -33,7 +33,8 @@ pub fn run_text(
 ) -> Result<TextRun, Refusal<SourceFault>>
     requires text { length text.now ≤ SOURCE_LIMIT }
     requires turns { turns ≤ 2 ^ 40 }
-    ensures ok { IfOk result (λ run. IsRunOf text.now turns input.now run.output.items run.outcome) }
+    ensures ok { IfOk result
+        (λ run. IsRunOf text.now turns input.now run.output.items run.outcome) }
     ensures err { IfErr result (λ e. RefusesSource text.now e) }
 {
     let code = plain_code(alloc, text)?;

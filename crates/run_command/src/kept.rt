@@ -194,8 +194,8 @@ fn past_paths(functions: &[FunctionCode], counts: &[FunctionData]) -> Option<u32
     None
 }
 
-/// Whether no bit at or above the number is set in these words, which are at most as many as so many
-/// bits need.
+/// Whether no bit at or above the number is set in these words, which are at most as many as so
+/// many bits need.
 fn ends_below(count: u32, words: &[u64]) -> bool
     ensures { result ≡ ends_below count words.now }
 {

@@ -20,10 +20,10 @@ use std::alloc::Global;
 /// the run returned or exited, it adds what was counted to the program's data.
 ///
 /// The answer tells how the run ended: `Ran`, `Trapped` or `OutOfTurns`. Or the command ends
-/// before the run, at a code that is `Missing`, `TooLong` or `BadCode` or an input that is `TooLong`
-/// or can't be read; after it, at an output that can't be written, at data that are `TooLong` or
-/// `BadData`, of another build or shape, or that would pass a limit, or at a folder that fails; or
-/// for want of memory.
+/// before the run, at a code that is `Missing`, `TooLong` or `BadCode` or an input that is
+/// `TooLong` or can't be read; after it, at an output that can't be written, at data that are
+/// `TooLong` or `BadData`, of another build or shape, or that would pass a limit, or at a folder
+/// that fails; or for want of memory.
 pub fn run<S: Source, K: Sink, F: Folder>(
     alloc: Global,
     turns: u64,

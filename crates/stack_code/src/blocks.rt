@@ -35,7 +35,8 @@ fn put_blocks(
 ) -> Result<(), AllocError>
     requires few { length blocks.now < 2 ^ 31 - 2 }
     requires small { let m = shape_marks marks.now in
-        length ops.old.items + length (spec.codes m (place_in starts.now.places.items starts.now.end)
+        length ops.old.items
+        + length (spec.codes m (place_in starts.now.places.items starts.now.end)
         2 (length ops.old.items) blocks.now) < 2 ^ 32 }
     ensures { OnOk result (let m = shape_marks marks.now in ops.new.items ≡ ops.old.items
         ++ spec.codes m (place_in starts.now.places.items starts.now.end) 2 (length ops.old.items)
@@ -60,7 +61,8 @@ fn put_block(
     requires low { number < 2 ^ 31 }
     requires small { let m = shape_marks marks.now number in
         length ops.old.items + length (spec.block_code m (suc number)
-        (place_in starts.now.places.items starts.now.end) (length ops.old.items) block.now) < 2 ^ 32 }
+        (place_in starts.now.places.items starts.now.end) (length ops.old.items) block.now)
+        < 2 ^ 32 }
     ensures { OnOk result (let m = shape_marks marks.now number in
         ops.new.items ≡ ops.old.items ++ spec.block_code m (suc number)
         (place_in starts.now.places.items starts.now.end) (length ops.old.items) block.now) }

@@ -66,7 +66,8 @@ fn heights_of(depth: u32, ops: &[Op]) -> Heights
 fn lead_on(graphs: &[Graph], end: &Ending, depth: u32, table: &mut [u32])
     requires { depth + 1 < 2 ^ 32 }
     ensures { let e = ending_view end.now in
-        table.new ≡ spec.with_depths (spec.led_on (is_back e) e) (spec.far graphs.now e depth) table.old }
+        table.new
+        ≡ spec.with_depths (spec.led_on (is_back e) e) (spec.far graphs.now e depth) table.old }
 {
     match end {
         Ending::Jump(target) => note(table, *target, depth),

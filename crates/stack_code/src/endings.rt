@@ -26,7 +26,8 @@ pub fn put_ending(
     requires low { from < 2 ^ 31 }
     requires small { let m = shape_marks marks.now from in
         length ops.old.items + length (spec.end_code m (suc from)
-        (place_in starts.now.places.items starts.now.end) (length ops.old.items) (ending_view end.now))
+        (place_in starts.now.places.items starts.now.end) (length ops.old.items)
+        (ending_view end.now))
         < 2 ^ 32 }
     ensures { OnOk result (let m = shape_marks marks.now from in
         ops.new.items ≡ ops.old.items ++ spec.end_code m (suc from)

@@ -43,7 +43,8 @@ pub fn starts_of(
     requires small { let m = shape_marks marks.now in
         spec.start_of m 2 (length (m 0 2)) blocks.now 0 < 2 ^ 32 }
     ensures { IfOk result (λ s. let m = shape_marks marks.now in (block : ℕ)
-        → place_in s.places.items s.end block ≡ spec.start_of m 2 (length (m 0 2)) blocks.now block) }
+        → place_in s.places.items s.end block
+        ≡ spec.start_of m 2 (length (m 0 2)) blocks.now block) }
 {
     let mut places = Vec::new(alloc);
     let mut end = marks.count(0, 2);
@@ -63,7 +64,8 @@ fn size_of_block(
     block: &Block,
 ) -> Result<u32, AllocError>
     requires low { number < 2 ^ 31 }
-    requires small { spec.block_size (shape_marks marks.now number) (suc number) block.now < 2 ^ 32 }
+    requires small { spec.block_size (shape_marks marks.now number) (suc number) block.now
+        < 2 ^ 32 }
     ensures { IfOk result (λ n. n
         ≡ spec.block_size (shape_marks marks.now number) (suc number) block.now) }
 {
@@ -78,7 +80,8 @@ fn size_of_ending(
     end: &Ending,
 ) -> Result<u32, AllocError>
     requires low { from < 2 ^ 31 }
-    requires small { end_size (shape_marks marks.now from) (suc from) (ending_view end.now) < 2 ^ 32 }
+    requires small { end_size (shape_marks marks.now from) (suc from) (ending_view end.now)
+        < 2 ^ 32 }
     ensures { IfOk result (λ n. n
         ≡ end_size (shape_marks marks.now from) (suc from) (ending_view end.now)) }
 {
@@ -122,7 +125,8 @@ fn size_of_switch(
 ) -> Result<u32, AllocError>
     requires small { let m = shape_marks marks.now from in
         let view = map (λ c. (c.0, c.1)) cases.now in
-        length view + suc (length (m default) + 1 + length (spec.stubs m (λ x. 0) (spec.goals view)))
+        length view
+        + suc (length (m default) + 1 + length (spec.stubs m (λ x. 0) (spec.goals view)))
         < 2 ^ 32 }
     ensures { IfOk result (λ n. let m = shape_marks marks.now from in
         let view = map (λ c. (c.0, c.1)) cases.now in

@@ -14,8 +14,8 @@ use crate::starts::{Starts, size_of_stub};
 use stack_ops::Op;
 use std::alloc::{AllocError, Global};
 
-/// The blocks that the cases of a switch lead to, ascending, and where the stub of each stands: what
-/// stands on the arc to it, apart from the other ways, with a jump behind it.
+/// The blocks that the cases of a switch lead to, ascending, and where the stub of each stands:
+/// what stands on the arc to it, apart from the other ways, with a jump behind it.
 #[derive(Drop)]
 pub struct Stubs {
     pub goals: Vec<u32>,
@@ -91,7 +91,8 @@ pub fn put_switch(
     requires { let m = shape_marks marks.now from in
         let view = map (λ c. (c.0, c.1)) cases.now in
         length ops.old.items + (length view
-        + suc (length (m default) + 1 + length (spec.stubs m (λ x. 0) (spec.goals view)))) < 2 ^ 32 }
+        + suc (length (m default) + 1 + length (spec.stubs m (λ x. 0) (spec.goals view))))
+        < 2 ^ 32 }
     ensures { OnOk result (let m = shape_marks marks.now from in
         let view = map (λ c. (c.0, c.1)) cases.now in
         let start = place_in starts.now.places.items starts.now.end in

@@ -9,8 +9,8 @@ use std::alloc::Global;
 use std::marker::Model;
 use word_rules::{begin, pass};
 
-/// The path bits of all calls, in a room that was taken before. The words of the innermost call come
-/// last, from `base` on.
+/// The path bits of all calls, in a room that was taken before. The words of the innermost call
+/// come last, from `base` on.
 #[derive(Drop)]
 pub(crate) struct PathBits {
     words: Vec<u64>,

@@ -11,8 +11,8 @@ use crate::streams::Streams;
 use stack_ops::{Code, Outcome};
 
 impl Run {
-    /// Runs a code from its start to its end. The run is moved, and the loop stands in a function of
-    /// its own, so that its place stays in registers.
+    /// Runs a code from its start to its end. The run is moved, and the loop stands in a function
+    /// of its own, so that its place stays in registers.
     #[inline(never)]
     pub(crate) fn finish<S: Streams>(
         self,
@@ -26,7 +26,8 @@ impl Run {
         requires begins { Begins code.now self }
         requires turns { self.turns ≤ 2 ^ 40 }
         requires written { S.written io.old ≡ [] }
-        ensures ran { ComesTo code.now (S.left io.old) self.turns result.0 (S.written io.new) result.1 }
+        ensures ran { ComesTo code.now (S.left io.old) self.turns result.0 (S.written io.new)
+            result.1 }
         ensures roomy { Roomy code.now result.1 }
         ensures globals { length result.1.globals ≡ length code.now.globals }
         ensures sized { Sized code.now (counters_of result.1.counts.items)

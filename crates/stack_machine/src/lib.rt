@@ -1,5 +1,5 @@
-//! The stack machine: it runs a code on an input, as often as it is told, within memory that it took
-//! at first.
+//! The stack machine: it runs a code on an input, as often as it is told, within memory that it
+//! took at first.
 
 #![tactic(auto)]
 

@@ -12,8 +12,8 @@ use int_ops::{BinOp, UnOp};
 use stack_ops::{Code, FunctionCode, Op, Outcome};
 
 impl Run {
-    /// Does one instruction of a function, the rows of whose table start in these places. None where
-    /// the run goes on.
+    /// Does one instruction of a function, the rows of whose table start in these places. None
+    /// where the run goes on.
     #[inline(always)]
     pub(crate) fn step<S: Streams>(
         &mut self,
@@ -27,7 +27,8 @@ impl Run {
         ensures effect { (s : Ghosts) → does code.now f.now op.now
             (point self.old (with_bytes (S.left io.old) (S.written io.old) s))
             ≡ told result
-            (point self.new (after op.now result (with_bytes (S.left io.new) (S.written io.new) s))) }
+            (point self.new
+            (after op.now result (with_bytes (S.left io.new) (S.written io.new) s))) }
         ensures keeps { Keeps self.old self.new }
     {
         macro_rules! arms {
@@ -69,7 +70,9 @@ impl Run {
         }
         arms!(
             two {
-                Mul Div Rem Add Sub Shl Shr Less Greater LessEqual GreaterEqual Equal NotEqual And Xor Or
+                Mul Div Rem Add Sub Shl Shr
+                Less Greater LessEqual GreaterEqual Equal NotEqual
+                And Xor Or
             }
             one { Minus Complement }
         )

@@ -37,7 +37,8 @@ impl Run {
     pub(crate) fn put_char<S: Streams>(&mut self, line: u32, io: &mut S) -> Option<Outcome>
         requires operands { 1 ≤ length self.old.store.operands }
         requires at { self.old.at < 2 ^ 32 }
-        ensures effect { (c : CodeValue) (f : FunctionValue) (s : Ghosts) → does c f (op.PutChar line)
+        ensures effect { (c : CodeValue) (f : FunctionValue) (s : Ghosts)
+            → does c f (op.PutChar line)
             (point self.old (with_bytes (S.left io.old) (S.written io.old) s))
             ≡ told result (point self.new (with_bytes (S.left io.new) (S.written io.new) s)) }
         ensures stays { Stays self.old self.new }

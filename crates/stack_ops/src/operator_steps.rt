@@ -96,7 +96,11 @@ pub fn binary_step(op: &Op, stack: &mut OpStack) -> Result<(), (Trap, u32)>
             }
         };
     }
-    by_operator!(Mul Div Rem Add Sub Shl Shr Less Greater LessEqual GreaterEqual Equal NotEqual And Xor Or)
+    by_operator!(
+        Mul Div Rem Add Sub Shl Shr
+        Less Greater LessEqual GreaterEqual Equal NotEqual
+        And Xor Or
+    )
 }
 
 /// Convert, Not, and the two operators on one operand.
