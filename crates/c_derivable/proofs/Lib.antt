@@ -1,0 +1,10 @@
+pub mod Marks
+pub mod Forms
+pub mod Begins
+pub mod Expressions
+pub mod Declarations
+pub mod Statements
+pub mod Sources
+pub mod Derived
+pub mod NoVoid
+pub mod Exactly
