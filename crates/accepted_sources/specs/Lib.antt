@@ -1,0 +1,2 @@
+pub mod CSources
+pub mod Laws
