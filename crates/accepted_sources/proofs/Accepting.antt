@@ -1,14 +1,12 @@
 -- Exactly the C sources of the language are accepted.
-use Rattle.std.proofs.Common.{◌≡◌, refl, sym, ap, ◌∙◌, ℕ, List}
-use Rattle.c_tree.specs.Tree.{Outer, Tree}
+use Rattle.std.proofs.Common.{refl, sym, ap, ◌∙◌, ℕ, List}
 use Rattle.c_tree.specs.Typed.{Typed}
 use Rattle.c_lower.specs.Lowered.{unit_of}
 use Rattle.c_lower.specs.Refusals.{lower_fault}
 use Rattle.fake_arcs.specs.Size.{size_fault}
 use Rattle.c_grammar.specs.Derivations.{Derives}
-use Rattle.c_grammar.proofs.Laws.{one}
 use Rattle.c_grammar.proofs.Formed.{derived_formed}
-use Rattle.c_derivable.proofs.Exactly.{exactly}
+use Rattle.c_derivable.proofs.Exactly.{exactly, one_derived}
 use Rattle.c_parser.specs.Sources.{ParseRefuses}
 use Rattle.c_typing.proofs.SourceSound.{typed_sound}
 use Rattle.source_graphs.specs.SourceGraphs.{IsTreeOf}
@@ -16,11 +14,6 @@ use Rattle.source_graphs.specs.Accepted.{IsAccepted}
 use Rattle.source_graphs.proofs.Acceptance.{refused_for_memory}
 use Rattle.accepted_sources.specs.CSources.{IsCSource}
 use Rattle.accepted_sources.specs.Laws.{AcceptedAreCSources, CSourcesAreNotRefused, SyntaxIsNoSource}
-
-tree_same : {a b : Tree} → a.outers ≡ b.outers → a.end ≡ b.end → a ≡ b
-tree_same {a = a} {b = b} o e =
-    ap (λ (xs : List Outer). let t : Tree = record { outers = xs; end = a.end } in t) o
-    ∙ ap (λ (n : ℕ). let t : Tree = record { outers = b.outers; end = n } in t) e
 
 tree_of : {text : List ℕ} (s : IsCSource text) → IsTreeOf text s.tree
 tree_of {text = text} s =
@@ -30,7 +23,7 @@ tree_of {text = text} s =
       parses = record {
         derives = d;
         levels = s.levels;
-        only = λ other e. tree_same (one e.whole d.whole).value (e.end ∙ sym d.end);
+        only = λ other e. one_derived e d;
       };
       source = s.is_source;
       formed = derived_formed s.splits s.short d;

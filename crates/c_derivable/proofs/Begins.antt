@@ -1,9 +1,11 @@
 -- Which tokens the symbols of C17's grammar begin with, and what the rules that look ahead see there.
-use Rattle.std.proofs.Common.{◌≡◌, refl, ap, ◌∙◌, ℕ, Bool, true, false, cond}
+use Rattle.std.proofs.Common.{sym, ◌≡◌, refl, ap, ◌∙◌, ℕ, Bool, true, false, cond}
 use Rattle.std.proofs.Common.{List, [], ◌∷◌, ◌++◌, Option, Some, None}
 use Rattle.c_tokens.specs.declared.token.Keyword.TheVariants as key
 use Rattle.c_tokens.specs.declared.token.Punct.{Punct}
 use Rattle.c_tokens.specs.declared.token.Punct.TheVariants as mark
+use Rattle.c_tokens.specs.contracts.token.Punct.{the_type as the_mark}
+use denote.Enum.Bare.{same_true}
 use Rattle.c_tokens.specs.declared.token.Token.{Token}
 use Rattle.c_tokens.specs.declared.token.TokenKind.{TokenKind}
 use Rattle.c_tokens.specs.declared.token.TokenKind.TheVariants as kind
@@ -115,25 +117,15 @@ no_type _ e = refl
 abbrev pub Closing : Punct → Type 0
 Closing m = (k : TokenKind) → starts_expression k ≡ true → is_mark m (mark_of (Some k)) ≡ false
 
-pub no_close_paren : Closing mark.CloseParen
-no_close_paren (kind.Mark mark.CloseParen) e = absurd (let never : false ≡ true = e in cc)
-no_close_paren _ e = refl
-
-pub no_close_bracket : Closing mark.CloseBracket
-no_close_bracket (kind.Mark mark.CloseBracket) e = absurd (let never : false ≡ true = e in cc)
-no_close_bracket _ e = refl
-
-pub no_close_brace : Closing mark.CloseBrace
-no_close_brace (kind.Mark mark.CloseBrace) e = absurd (let never : false ≡ true = e in cc)
-no_close_brace _ e = refl
-
-pub no_open_brace : Closing mark.OpenBrace
-no_open_brace (kind.Mark mark.OpenBrace) e = absurd (let never : false ≡ true = e in cc)
-no_open_brace _ e = refl
-
-pub no_semicolon : Closing mark.Semicolon
-no_semicolon (kind.Mark mark.Semicolon) e = absurd (let never : false ≡ true = e in cc)
-no_semicolon _ e = refl
+pub closes : (m : Punct) → starts_expression (kind.Mark m) ≡ false → Closing m
+closes m never (kind.Mark n) e = go (is_mark m (Some n)) refl
+  where
+    go : (b : Bool) → is_mark m (Some n) ≡ b → b ≡ false
+    go false f = refl
+    go true f =
+        let same = ap (λ (n : Punct). starts_expression (kind.Mark n)) (same_true the_mark tt n m f) in
+        absurd (let wrong : false ≡ true = sym never ∙ (sym same ∙ e) in cc)
+closes m never _ e = refl
 
 pub value_form : (k : TokenKind) → starts_expression k ≡ true → form_of (Some k) ≡ form.Value
 value_form (kind.Mark mark.OpenBrace) e = absurd (let never : false ≡ true = e in cc)

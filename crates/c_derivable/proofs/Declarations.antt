@@ -20,6 +20,7 @@ use Rattle.c_syntax.specs.Syntax.{IsMark, IsName, AreTypeWords, IsType, Symbol, 
 use Rattle.c_derivable.proofs.Marks.{Ends, no_bracket, no_initialiser}
 use Rattle.c_derivable.proofs.Begins.{
   Begins,
+  closes,
   OpensMember,
   opens_member,
   starts_expression,
@@ -31,9 +32,6 @@ use Rattle.c_derivable.proofs.Begins.{
   begins_too,
   item_is_no_else,
   item_closes_nothing,
-  no_close_brace,
-  no_close_bracket,
-  no_open_brace,
   opens,
   seen,
 }
@@ -114,7 +112,7 @@ goes_on_at_comma Listed.arguments t us rest c k h = is_next mark.Comma t (us ++ 
 goes_on_at_comma Listed.values t us rest c k h =
     ap (λ (b : Bool). cond b (cond (next_is mark.CloseBrace (us ++ rest)) false true) false) (is_next mark.Comma t (us ++ rest) k)
     ∙ ap (λ (b : Bool). cond b false true)
-    (seen starts_expression (λ k. is_mark mark.CloseBrace (mark_of k)) false no_close_brace us rest h (next_is mark.CloseBrace)
+    (seen starts_expression (λ k. is_mark mark.CloseBrace (mark_of k)) false (closes mark.CloseBrace refl) us rest h (next_is mark.CloseBrace)
     (λ t us. refl))
 goes_on_at_comma (Listed.variables base) t us rest c k h = is_next mark.Comma t (us ++ rest) k
 goes_on_at_comma Listed.parameters t us rest c k h = is_next mark.Comma t (us ++ rest) k
@@ -320,7 +318,7 @@ module _ (text : List ℕ) where
       (forms.moved text Rule.size _ (append_assoc ts (c ∷ []) rest)
       (forms.part text Rule.size Rule.length
       (forms.look text Rule.length grammar.length_as (next_is mark.CloseBracket) false
-      (seen starts_expression (λ k. is_mark mark.CloseBracket (mark_of k)) false no_close_bracket ts (c ∷ rest) b
+      (seen starts_expression (λ k. is_mark mark.CloseBracket (mark_of k)) false (closes mark.CloseBracket refl) ts (c ∷ rest) b
       (next_is mark.CloseBracket) (λ t us. refl))
       (forms.part text Rule.length Rule.conditional (h (c ∷ rest) (ends_at 11 mark.CloseBracket c rest d (omega arith)))
       (λ n. forms.mark text Rule.length d (forms.done text Rule.length))))
@@ -344,7 +342,7 @@ module _ (text : List ℕ) where
   of_one ts k b h rest l =
       given (ts ++ rest) rest k
       (forms.look text Rule.given grammar.given_as (next_is mark.OpenBrace) false
-      (seen starts_expression (λ k. is_mark mark.OpenBrace (mark_of k)) false no_open_brace ts rest b (next_is mark.OpenBrace)
+      (seen starts_expression (λ k. is_mark mark.OpenBrace (mark_of k)) false (closes mark.OpenBrace refl) ts rest b (next_is mark.OpenBrace)
       (λ t us. refl))
       (forms.part text Rule.given Rule.assignment (h rest l) (λ n. forms.done text Rule.given)))
 

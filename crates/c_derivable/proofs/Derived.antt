@@ -13,7 +13,7 @@ use Rattle.c_grammar.specs.Grammar as grammar
 use Rattle.c_grammar.specs.Derivations.{Front, Derives}
 use Rattle.c_syntax.specs.Syntax.{IsMark, IsType, Symbol, Value, symbol_of, member_of, takes_else, Is, IsSource}
 use Rattle.c_derivable.specs.Laws.{HoldsNoVoid, HoldNoVoid}
-use Rattle.c_derivable.proofs.Begins.{starts_expression, starts_type, no_close_paren, type_opens, opens_member, opens, seen}
+use Rattle.c_derivable.proofs.Begins.{closes, starts_expression, starts_type, type_opens, opens_member, opens, seen}
 use Rattle.c_derivable.proofs.Forms.{append_assoc}
 use Rattle.c_derivable.proofs.Forms as forms
 use Rattle.c_derivable.proofs.Expressions.{is_next, ends_at}
@@ -106,7 +106,7 @@ module _ (text : List ℕ) where
       → declarations.OfSeparated text Listed.arguments ts es → Holds Symbol.arguments ts es
   some_arguments ts es is h c k rest =
       forms.look text Rule.arguments grammar.arguments_as (next_is mark.CloseParen) false
-      (seen starts_expression (λ k. is_mark mark.CloseParen (mark_of k)) false no_close_paren ts (c ∷ rest) (opens text is)
+      (seen starts_expression (λ k. is_mark mark.CloseParen (mark_of k)) false (closes mark.CloseParen refl) ts (c ∷ rest) (opens text is)
       (next_is mark.CloseParen) (λ t us. refl))
       (forms.part text Rule.arguments (Rule.list Listed.arguments)
       (h (c ∷ rest) (ends_at 12 mark.CloseParen c rest k (omega arith))

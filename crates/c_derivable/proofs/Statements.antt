@@ -22,14 +22,13 @@ use Rattle.c_syntax.specs.Syntax.{IsMark, IsKey, takes_else}
 use Rattle.c_derivable.proofs.Marks.{looseness}
 use Rattle.c_derivable.proofs.Begins.{
   Begins,
+  closes,
   Closing,
   starts_expression,
   starts_statement,
   starts_type,
   starts_item,
   no_type,
-  no_semicolon,
-  no_close_paren,
   value_form,
   statement_is_no_type,
   item_is_no_label,
@@ -120,7 +119,7 @@ module _ (text : List ℕ) where
   of_empty {t = t} k rest =
       formed form.Value (form_begun t rest (kind.Mark mark.Semicolon) k.is)
       (forms.part text Rule.statement (Rule.ended mark.Semicolon)
-      (of_nothing mark.Semicolon k no_semicolon (omega arith) rest) (λ n. forms.done text Rule.statement))
+      (of_nothing mark.Semicolon k (closes mark.Semicolon refl) (omega arith) rest) (λ n. forms.done text Rule.statement))
 
   pub of_value : {t : Token} (ts : List Token) {e : Expr} → Begins starts_expression ts → OfExpression ts e
       → IsMark mark.Semicolon t → Anyway Rule.statement (ts ++ t ∷ []) (Stmt.Value e)
@@ -129,7 +128,7 @@ module _ (text : List ℕ) where
       (ap form_at (append_assoc ts (t ∷ []) rest)
       ∙ seen starts_expression form_of form.Value value_form ts (t ∷ rest) b form_at (λ t us. refl))
       (forms.part text Rule.statement (Rule.ended mark.Semicolon)
-      (of_something ts mark.Semicolon b h k no_semicolon (omega arith) rest) (λ n. forms.done text Rule.statement))
+      (of_something ts mark.Semicolon b h k (closes mark.Semicolon refl) (omega arith) rest) (λ n. forms.done text Rule.statement))
 
   pub of_if_alone : {t o c : Token} (ts us : List Token) {e : Expr} {s : Stmt} → IsKey key.If t
       → IsMark mark.OpenParen o → OfExpression ts e → IsMark mark.CloseParen c
@@ -205,8 +204,8 @@ module _ (text : List ℕ) where
       (forms.part text Rule.for_head Rule.first (hf (us ++ (vs ++ (ws ++ rest))))
       (λ n. forms.part text Rule.for_head Rule.controls
       (forms.part text Rule.controls (Rule.ended mark.Semicolon)
-      (ht no_semicolon (omega arith) (vs ++ (ws ++ rest)))
-      (λ m. forms.part text Rule.controls (Rule.ended mark.CloseParen) (hp no_close_paren (omega arith) (ws ++ rest))
+      (ht (closes mark.Semicolon refl) (omega arith) (vs ++ (ws ++ rest)))
+      (λ m. forms.part text Rule.controls (Rule.ended mark.CloseParen) (hp (closes mark.CloseParen refl) (omega arith) (ws ++ rest))
       (λ i. forms.done text Rule.controls)))
       (λ m. forms.done text Rule.for_head)))))
       (λ n. forms.part text Rule.statement Rule.statement (hs rest dangles) (λ m. forms.done text Rule.statement))))
@@ -246,7 +245,7 @@ module _ (text : List ℕ) where
   of_return {t = t} ts k h rest =
       formed form.Return (form_begun t (ts ++ rest) (kind.Key key.Return) k.is)
       (forms.token text Rule.statement
-      (forms.part text Rule.statement (Rule.ended mark.Semicolon) (h no_semicolon (omega arith) rest)
+      (forms.part text Rule.statement (Rule.ended mark.Semicolon) (h (closes mark.Semicolon refl) (omega arith) rest)
       (λ n. forms.done text Rule.statement)))
 
   -- ---- the first part of a `for`
@@ -274,7 +273,7 @@ module _ (text : List ℕ) where
       forms.moved text Rule.first _ (append_assoc ts (t ∷ []) rest)
       (first_look false false
       (seen starts_expression (λ k. is_type_word (key_of k)) false no_type ts (t ∷ rest) b type_at (λ t us. refl))
-      (seen starts_expression (λ k. is_mark mark.Semicolon (mark_of k)) false no_semicolon ts (t ∷ rest) b
+      (seen starts_expression (λ k. is_mark mark.Semicolon (mark_of k)) false (closes mark.Semicolon refl) ts (t ∷ rest) b
       (next_is mark.Semicolon) (λ t us. refl))
       (forms.part text Rule.first (Rule.closed mark.Semicolon)
       (expressions.closed text mark.Semicolon ts rest (omega arith) k h) (λ n. forms.done text Rule.first)))
